@@ -1,0 +1,4 @@
+pub mod Number
+pub mod Padding
+pub mod Part
+pub mod Text

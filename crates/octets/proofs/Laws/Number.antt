@@ -1,0 +1,57 @@
+-- Little-endian numbers, over the width.
+use Prim.Native.Nat.{ℕ, zero, suc, _+_, _*_, _^_, _≤_, _<_}
+use mathlib.Core.Path.{_≡_, refl}
+use mathlib.Core.List.{List}
+use native.Mathlib.Nat.{pow-suc, add-zero, add-assoc}
+use native.Mathlib.Omega.{arith}
+use lib.ListN.{length, getD, drop, List·getD-eq-default}
+use lib.Seq.{getD-drop}
+use Rattle.octets.specs.Number.{le}
+
+-- past the end there is nothing
+pub le-out : (w : ℕ) (s : List ℕ) (at : ℕ) → length s ≤ at → le w s at ≡ 0
+unfolding le
+le-out zero s at h = refl
+le-out (suc w) s at h =
+    let e : getD s at 0 ≡ 0 = List·getD-eq-default s 0 h in
+    let r : le w s (suc at) ≡ 0 = le-out w s (suc at) (omega arith) in
+    omega arith
+
+-- a number of w bytes is below 256 ^ w
+pub le-lt : (w : ℕ) (s : List ℕ) (at : ℕ) → ((i : ℕ) → getD s i 0 < 256) → le w s at < 256 ^ w
+unfolding le
+le-lt zero s at b = omega arith
+le-lt (suc w) s at b =
+    let r : le w s (suc at) < 256 ^ w = le-lt w s (suc at) b in
+    let h : getD s at 0 < 256 = b at in
+    let e : 256 ^ suc w ≡ 256 ^ w * 256 = pow-suc 256 w in
+    omega arith
+
+next : (at i : ℕ) → suc at + i ≡ at + suc i
+next at i = omega arith
+
+-- equal bytes are equal numbers
+pub le-cong : (w : ℕ) (s t : List ℕ) (at bt : ℕ) → ((i : ℕ) → i < w → getD s (at + i) 0 ≡ getD t (bt + i) 0)
+    → le w s at ≡ le w t bt
+unfolding le
+le-cong zero s t at bt h = refl
+le-cong (suc w) s t at bt h =
+    let e : getD s at 0 ≡ getD t bt 0 = simp add-zero at (h 0 (omega arith)) in
+    let r : le w s (suc at) ≡ le w t (suc bt) =
+    le-cong w s t (suc at) (suc bt) (λ i l. simp next (h (suc i) (omega arith))) in
+    omega arith
+
+-- equal numbers are equal bytes
+pub le-inj : (w : ℕ) (s t : List ℕ) (at bt : ℕ) → ((i : ℕ) → getD s i 0 < 256) → ((i : ℕ) → getD t i 0 < 256)
+    → le w s at ≡ le w t bt → (i : ℕ) → i < w → getD s (at + i) 0 ≡ getD t (bt + i) 0
+unfolding le
+le-inj zero s t at bt hs ht e i h = omega arith
+le-inj (suc w) s t at bt hs ht e zero h = simp add-zero (omega (arith, hs at, ht bt))
+le-inj (suc w) s t at bt hs ht e (suc i) h =
+    let r : le w s (suc at) ≡ le w t (suc bt) = omega (arith, hs at, ht bt) in
+    simp next at (le-inj w s t (suc at) (suc bt) hs ht r i (omega arith))
+
+-- a number of a part is the number at the part's place
+pub le-drop : (w : ℕ) (s : List ℕ) (p at : ℕ) → le w (drop p s) at ≡ le w s (p + at)
+le-drop w s p at =
+    le-cong w (drop p s) s at (p + at) (λ i l. rw add-assoc (getD-drop p s (at + i) 0))

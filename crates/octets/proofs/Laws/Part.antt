@@ -1,0 +1,38 @@
+-- A part of a row of bytes.
+use Prim.Native.Nat.{ℕ, _+_, _-_, _≤_, _<_}
+use mathlib.Core.Path.{_≡_, refl}
+use mathlib.Core.List.{List, []}
+use mathlib.Core.Bool.{Bool, true, false, cond}
+use native.Mathlib.Omega.{arith}
+use borrow.Author.Tests.{le-ltb}
+use lib.ListN.{length, getD, take, drop, length-drop}
+use lib.Dec.{leb·suc-zero}
+use lib.Seq.{length-take-le, getD-take, getD-drop, take-all}
+use Rattle.octets.specs.Part.{within}
+
+cond-same : (b : Bool) → cond {A = List ℕ} b [] [] ≡ []
+cond-same true = refl
+cond-same false = refl
+
+-- of no bytes there are none, wherever they would be
+pub within-none : (s : List ℕ) (at : ℕ) → within s at 0 ≡ []
+unfolding within
+within-none s at = simp (leb·suc-zero, cond-same)
+
+module _ (s : List ℕ) (at n : ℕ) (h : at + n ≤ length s) where
+  -- where all the bytes are there, they are the part
+  pub within-in : within s at n ≡ take n (drop at s)
+  unfolding within
+  within-in = rw (le-ltb (length s) at (omega arith), le-ltb (length s - at) n (omega arith))
+
+  -- as many as were asked
+  pub length-within : length (within s at n) ≡ n
+  length-within = rw within-in (length-take-le n (drop at s) (rw length-drop (omega arith)))
+
+  -- each at its place
+  pub getD-within : (i : ℕ) → i < n → getD (within s at n) i 0 ≡ getD s (at + i) 0
+  getD-within i l = rw (within-in, getD-take, getD-drop)
+
+-- the part from an offset to the end is what is left when as many bytes are dropped
+pub rest-drop : (s : List ℕ) (at : ℕ) → take (length s - at) (drop at s) ≡ drop at s
+rest-drop s at = take-all (length s - at) (drop at s) (omega (arith, length-drop at s))

@@ -1,0 +1,72 @@
+-- Text of 16-bit units: the rule by counting.
+use Prim.Native.Nat.{ℕ, zero, suc, _+_, _*_, _-_, _/_, _%_, _<_}
+use mathlib.Core.Path.{_≡_, refl, sym, ap, _∙_}
+use mathlib.Core.List.{List, [], _∷_, _++_}
+use mathlib.Core.Bool.{false, _&&_, cond}
+use native.Mathlib.Nat.{zero-add, add-zero, mul-suc}
+use native.Mathlib.Numerals.{add-two, sub-one}
+use native.Mathlib.Omega.{arith}
+use borrow.Author.Tests.{eq-eqb, ne-eqb}
+use lib.ListN.{length, getD, take}
+use lib.Seq.{take-suc}
+use lib.Dec.{eqb, eqb·suc-zero}
+use Rattle.octets.specs.Number.{le}
+use Rattle.octets.specs.Text.{units, lastOnly, isText, zeros}
+
+pub length-units : (s : List ℕ) → length (units s) ≡ length s / 2
+unfolding units
+length-units [] = refl
+length-units (a ∷ []) = refl
+length-units (a ∷ b ∷ s) = let r : length (units s) ≡ length s / 2 = length-units s in omega arith
+
+-- a unit is the number of its two bytes
+pub getD-units : (s : List ℕ) (i : ℕ) → i < length s / 2 → getD (units s) i 0 ≡ le 2 s (2 * i)
+unfolding units le
+getD-units [] i h = omega arith
+getD-units (a ∷ []) i h = omega arith
+getD-units (a ∷ b ∷ s) zero h = omega arith
+getD-units (a ∷ b ∷ s) (suc i) h = simp mul-suc (simp add-two (getD-units s i (omega arith)))
+
+zeros-append : (us vs : List ℕ) → zeros (us ++ vs) ≡ zeros us + zeros vs
+unfolding zeros
+zeros-append [] vs = omega arith
+zeros-append (u ∷ us) vs = let r : zeros (us ++ vs) ≡ zeros us + zeros vs = zeros-append us vs in omega arith
+
+-- one unit more
+pub zeros-take-suc : (us : List ℕ) (i : ℕ) → i < length us
+    → zeros (take (suc i) us) ≡ zeros (take i us) + cond (eqb (getD us i 0) 0) 1 0
+unfolding zeros
+zeros-take-suc us i h = rw (take-suc us i 0, zeros-append) (simp add-zero)
+
+-- a zero unit is counted
+zeros-pos : (us : List ℕ) (i : ℕ) → i < length us → getD us i 0 ≡ 0 → 0 < zeros us
+unfolding zeros
+zeros-pos [] i h e = omega arith
+zeros-pos (u ∷ us) zero h e = rw (eq-eqb u 0 e) (omega arith)
+zeros-pos (u ∷ us) (suc i) h e = omega (arith, zeros-pos us i (omega arith) e)
+
+-- where a unit before the last is zero, the last makes two
+second : (l m : ℕ) → (l ≡ 0 → 0 < m) → false ≡ (eqb l 0 && eqb (1 + m) 1)
+second zero m h = sym (ne-eqb (1 + m) 1 (λ e. omega (arith, h refl)))
+second (suc l) m h = rw eqb·suc-zero
+
+-- the last and no other unit is zero exactly where it is zero and one unit is
+pub lastOnly-counted : (us : List ℕ) → lastOnly us ≡ (eqb (getD us (length us - 1) 0) 0 && eqb (zeros us) 1)
+unfolding lastOnly zeros
+lastOnly-counted [] = refl
+lastOnly-counted (zero ∷ []) = refl
+lastOnly-counted (suc u ∷ []) = rw eqb·suc-zero
+lastOnly-counted (zero ∷ v ∷ us) =
+    rw sub-one (second (getD (v ∷ us) (length us) 0) (zeros (v ∷ us)) (zeros-pos (v ∷ us) (length us) (omega arith)))
+lastOnly-counted (suc u ∷ v ∷ us) = simp (eqb·suc-zero, sub-one, zero-add) (simp sub-one at (lastOnly-counted (v ∷ us)))
+
+-- the rule for a text, by its length, its last two bytes and the count of its zero units
+pub isText-counted : (s : List ℕ) → length s % 2 ≡ 0 → 0 < length s
+    → isText s ≡ (eqb (le 2 s (length s - 2)) 0 && eqb (zeros (units s)) 1)
+unfolding isText
+isText-counted s even some =
+    let n : length (units s) ≡ length s / 2 = length-units s in
+    let p : 2 * (length (units s) - 1) ≡ length s - 2 = omega arith in
+    let l : getD (units s) (length (units s) - 1) 0 ≡ le 2 s (length s - 2) =
+    getD-units s (length (units s) - 1) (omega arith) ∙ ap (λ (at : ℕ). le 2 s at) p in
+    rw (eq-eqb (length s % 2) 0 even, lastOnly-counted (units s), l)

@@ -1,0 +1,20 @@
+-- `octets::number::u8_at` meets its contract: past the end a list's element is the default, 0.
+-- Assumes nothing.
+use denote.Ref.{now}
+use mathlib.Core.Path.{sym}
+use borrow.Author.Needs.{needs}
+use lib.ListN.{List·getD-eq-default}
+use Rattle.octets.proofs.number.u8_at.Statement.{statement}
+use Rattle.octets.proofs.number.u8_at.Tie as tie
+
+shared-slice-read-result : tie.Need-shared-slice-read-result
+shared-slice-read-result c = search needs
+
+returns : tie.Need-returns
+returns c = search needs
+
+returns-2 : tie.Need-returns-2
+returns-2 c = sym (List·getD-eq-default (now (c .before .args .s)) 0 (c .if1 .left))
+
+pub u8-at-spec : {M : Type 1} → statement M
+u8-at-spec = tie.close (tie.spec shared-slice-read-result returns returns-2)

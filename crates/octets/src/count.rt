@@ -1,0 +1,19 @@
+// Counts of bytes and counts of 16-bit units, which the source documents keep apart.
+ghost use mathlib.Core.Path.{_≡_};
+ghost use Prim.Native.Nat.{_*_};
+
+// A count of bytes, or an offset in bytes.
+pub struct Bytes(pub usize);
+
+// A count of 16-bit units.
+pub struct Units(pub u32);
+
+impl Units {
+    // The one conversion: so many units take twice as many bytes.
+    pub fn bytes(self) -> Bytes
+        ensures { λ r. ⌜ r .0 ≡ 2 * self .0 ⌝ }
+    {
+        let units = self.0;
+        Bytes(2 * (units as usize))
+    }
+}

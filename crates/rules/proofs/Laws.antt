@@ -1,0 +1,6 @@
+pub mod Accepted
+pub mod Bits
+pub mod Judged
+pub mod Layout
+pub mod Listed
+pub mod Masked

@@ -1,0 +1,155 @@
+use Prim.Native.Nat.{ℕ}
+use mathlib.Core.Path.{ap, _∙_}
+use native.Mathlib.Omega.{arith}
+use borrow.Author.Needs.{needs}
+use Rattle.rules.specs.Security.{keyAt, part, signatureAt, certAt, providerAt, securityLength}
+use Rattle.rules.specs.declared.security.SecurityLayout.the-variants.{Fits}
+use Rattle.rules.proofs.Laws.Layout.{not-too-long, security-parts, security-sizes, too-long}
+use Rattle.rules.proofs.security.layout_within.Statement.{statement}
+use Rattle.rules.proofs.security.layout_within.Tie as tie
+
+refused-requires : tie.Need-refused-requires
+refused-requires c κs = search needs
+
+returns : tie.Need-returns
+returns c =
+    let a = c .before .before .args in
+    c .refused .ensures ∙ too-long (securityLength (a .f)) _ _ (omega (arith, security-sizes (a .f)))
+
+refused-requires-2 : tie.Need-refused-requires-2
+refused-requires-2 c κs = search needs
+
+returns-2 : tie.Need-returns-2
+returns-2 c =
+    let a = c .before .before .before .args in
+    c .refused2 .ensures ∙ too-long (securityLength (a .f)) _ _ (omega (arith, security-sizes (a .f)))
+
+refused-requires-3 : tie.Need-refused-requires-3
+refused-requires-3 c κs = search needs
+
+returns-3 : tie.Need-returns-3
+returns-3 c =
+    let a = c .before .before .before .before .args in
+    c .refused3 .ensures ∙ too-long (securityLength (a .f)) _ _ (omega (arith, security-sizes (a .f)))
+
+refused-requires-4 : tie.Need-refused-requires-4
+refused-requires-4 c κs = search needs
+
+returns-4 : tie.Need-returns-4
+returns-4 c =
+    let a = c .before .before .before .before .before .args in
+    c .refused4 .ensures ∙ too-long (securityLength (a .f)) _ _ (omega (arith, security-sizes (a .f)))
+
+refused-requires-5 : tie.Need-refused-requires-5
+refused-requires-5 c κs = search needs
+
+returns-5 : tie.Need-returns-5
+returns-5 c =
+    let a = c .before .before .before .before .before .before .args in
+    c .refused5 .ensures ∙ too-long (securityLength (a .f)) _ _ (omega (arith, security-sizes (a .f)))
+
+padded-requires : tie.Need-padded-requires
+padded-requires c κs = search needs
+
+add-key-at : tie.Need-add-key-at
+add-key-at c = search needs
+
+padded-requires-2 : tie.Need-padded-requires-2
+padded-requires-2 c κs = search needs
+
+add-signature-at : tie.Need-add-signature-at
+add-signature-at c = search needs
+
+padded-requires-3 : tie.Need-padded-requires-3
+padded-requires-3 c κs = search needs
+
+add-cert-at : tie.Need-add-cert-at
+add-cert-at c = search needs
+
+padded-requires-4 : tie.Need-padded-requires-4
+padded-requires-4 c κs = search needs
+
+add-provider-at : tie.Need-add-provider-at
+add-provider-at c = search needs
+
+padded-requires-5 : tie.Need-padded-requires-5
+padded-requires-5 c κs = search needs
+
+add-length : tie.Need-add-length
+add-length c = search needs
+
+refused-requires-6 : tie.Need-refused-requires-6
+refused-requires-6 c κs = search needs
+
+returns-6 : tie.Need-returns-6
+unfolding keyAt signatureAt certAt providerAt securityLength
+returns-6 c =
+    let f = c .before .before .before .before .before .before .before .before .before .before .before .before .args .f in
+    c .refused6 .ensures ∙ too-long (securityLength f) _ _ (omega arith)
+
+part-requires : tie.Need-part-requires
+part-requires c κs = search needs
+
+part-requires-2 : tie.Need-part-requires-2
+part-requires-2 c κs = search needs
+
+part-requires-3 : tie.Need-part-requires-3
+part-requires-3 c κs = search needs
+
+part-requires-4 : tie.Need-part-requires-4
+part-requires-4 c κs = search needs
+
+part-requires-5 : tie.Need-part-requires-5
+part-requires-5 c κs = search needs
+
+returns-7 : tie.Need-returns-7
+unfolding keyAt signatureAt certAt providerAt securityLength
+returns-7 c =
+    let f = c .before .before .before .before .before .before .before .before .before .before .before .before .before .before .before .before .args .f in
+    let identity = c .before .before .before .before .before .before .before .before .before .before .padded .ensures .0 in
+    let key = c .before .before .before .before .before .before .before .before .before .padded2 .ensures .0 in
+    let signature = c .before .before .before .before .before .before .before .before .padded3 .ensures .0 in
+    let cert = c .before .before .before .before .before .before .before .padded4 .ensures .0 in
+    let provider = c .before .before .before .before .before .before .padded5 .ensures .0 in
+    ap Fits
+    (security-parts f _ _ _ _ _ _
+    (c .before .before .before .before .part .ensures)
+    (c .before .before .before .part2 .ensures ∙ ap (λ (k : ℕ). part k (f .«encryption_key_size» .0)) (omega arith))
+    (c .before .before .part3 .ensures ∙ ap (λ (k : ℕ). part k (f .«signature_size» .0)) (omega arith))
+    (c .before .part4 .ensures ∙ ap (λ (k : ℕ). part k (f .«sender_cert_size» .0)) (omega arith))
+    (c .part5 .ensures ∙ ap (λ (k : ℕ). part k (f .«provider_info_size» .0)) (omega arith))
+    (omega arith))
+    ∙ not-too-long (securityLength f) _ _ (omega arith)
+
+pub layout-within-spec : {M : Type 1} → statement M
+layout-within-spec =
+    tie.close
+    (tie.spec
+    refused-requires
+    returns
+    refused-requires-2
+    returns-2
+    refused-requires-3
+    returns-3
+    refused-requires-4
+    returns-4
+    refused-requires-5
+    returns-5
+    padded-requires
+    add-key-at
+    padded-requires-2
+    add-signature-at
+    padded-requires-3
+    add-cert-at
+    padded-requires-4
+    add-provider-at
+    padded-requires-5
+    add-length
+    refused-requires-6
+    returns-6
+    part-requires
+    part-requires-2
+    part-requires-3
+    part-requires-4
+    part-requires-5
+    returns-7)

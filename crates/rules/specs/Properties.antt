@@ -1,0 +1,72 @@
+-- 01, MessagePropertiesHeader at p: fields, parts, and the steps on them.
+use Prim.Native.Nat.{ℕ, _+_, _*_, _%_}
+use mathlib.Core.List.{List}
+use mathlib.Core.Bool.{Bool, not, _||_, cond}
+use lib.ListN.{length, getD}
+use lib.Dec.{eqb, ltb}
+use Rattle.octets.specs.Number.{le}
+use Rattle.octets.specs.Padding.{padded}
+use Rattle.octets.specs.Text.{isText}
+use Rattle.rules.specs.Listed.{listed, classes}
+use Rattle.rules.specs.Refusal.{bytes, refusal, limit}
+use Rattle.rules.specs.Security.{part}
+use Rattle.rules.specs.declared.refusal.Checked.{Checked}
+use Rattle.rules.specs.declared.refusal.Checked.the-variants.{Passed, Refused as Checked·Refused}
+use Rattle.rules.specs.declared.properties.PropertiesFields.{PropertiesFields}
+use Rattle.rules.specs.declared.properties.PropertiesParts.{PropertiesParts}
+use Rattle.rules.specs.declared.properties.PropertiesLayout.{PropertiesLayout}
+use Rattle.rules.specs.declared.properties.PropertiesLayout.the-variants.{Fits, Refused}
+
+-- "56 fixed bytes: Flags 0 (1: PA, PR, NA, NR, four X bits), LabelLength 1 (1), MessageClass 2 (2), CorrelationID 4 (20), BodyType 24, ApplicationTag 28, MessageSize 32, AllocationBodySize 36, PrivacyLevel 40, HashAlgorithm 44, EncryptionAlgorithm 48, ExtensionSize 52 (4 each)"
+unfoldable pub propertiesFields : List ℕ → PropertiesFields
+propertiesFields h =
+    record {
+      flags = getD h 0 0 % 16;
+      «label_length» = record { 0 = getD h 1 0 };
+      «message_class» = le 2 h 2;
+      «body_type» = le 4 h 24;
+      «message_size» = bytes (le 4 h 32);
+      «allocation_body_size» = bytes (le 4 h 36);
+      «privacy_level» = le 4 h 40;
+      «hash_algorithm» = le 4 h 44;
+      «encryption_algorithm» = le 4 h 48;
+      «extension_size» = bytes (le 4 h 52);
+    }
+
+-- "LabelLength and the title count 16-bit units": the label's bytes
+abbrev pub labelBytes : PropertiesFields → ℕ
+labelBytes f = 2 * f .«label_length» .0
+
+-- "Then label (2 × LabelLength bytes), extension, body, with nothing between them, and padding to a multiple of 4 at the end"
+unfoldable pub extensionAt : ℕ → PropertiesFields → ℕ
+extensionAt p f = p + 56 + labelBytes f
+
+unfoldable pub bodyAt : ℕ → PropertiesFields → ℕ
+bodyAt p f = extensionAt p f + f .«extension_size» .0
+
+unfoldable pub propertiesLength : PropertiesFields → ℕ
+propertiesLength f = padded 4 (56 + labelBytes f + f .«extension_size» .0 + f .«message_size» .0)
+
+unfoldable pub propertiesParts : ℕ → PropertiesFields → PropertiesParts
+propertiesParts p f =
+    record {
+      label = part (p + 56) (labelBytes f);
+      extension = part (extensionAt p f) (f .«extension_size» .0);
+      body = part (bodyAt p f) (f .«message_size» .0);
+      «section_length» = bytes (p + propertiesLength f);
+    }
+
+unfoldable pub propertiesSteps : PropertiesFields → ℕ → PropertiesLayout
+propertiesSteps f p =
+    cond (ltb 250 (f .«label_length» .0)) (Refused (refusal 9 p))  -- P2
+    (cond (not (listed classes (f .«message_class»))) (Refused (refusal 10 p))  -- P3
+    (cond (ltb (f .«allocation_body_size» .0) (f .«message_size» .0) || ltb limit (f .«allocation_body_size» .0)) (Refused (refusal 11 p))  -- P4
+    (cond (ltb limit (p + propertiesLength f)) (Refused (refusal 8 p))  -- P5
+    (Fits (propertiesParts p f)))))
+
+-- P7: "in a label, if any, only the last unit is zero"
+unfoldable pub labelText : List ℕ → Bool
+labelText label = eqb (length label) 0 || isText label
+
+unfoldable pub labelContents : List ℕ → ℕ → Checked
+labelContents label p = cond (not (labelText label)) (Checked·Refused (refusal 12 p)) Passed  -- P7

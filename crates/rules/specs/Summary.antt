@@ -1,0 +1,90 @@
+-- 01's two verdicts, and the summary of what was read.
+use Prim.Native.Nat.{ℕ, _+_}
+use mathlib.Core.Bool.{Bool, true, false, not, _&&_, _||_}
+use mathlib.Core.List.{List}
+use lib.ListN.{drop}
+use lib.Dec.{eqb, ltb}
+use Rattle.octets.specs.Number.{le}
+use Rattle.octets.specs.Part.{within}
+use Rattle.rules.specs.Listed.{listed, privacyLevels, hashAlgorithms, encryptionAlgorithms}
+use Rattle.rules.specs.Refusal.{bytes}
+use Rattle.rules.specs.Security.{part, EB}
+use Rattle.rules.specs.declared.section.Part.{Part}
+use Rattle.rules.specs.declared.section.Section.{Section}
+use Rattle.rules.specs.declared.section.Summary.{Summary}
+use Rattle.rules.specs.declared.security.SecurityFields.{SecurityFields}
+use Rattle.rules.specs.declared.security.SecurityHeader.{SecurityHeader}
+use Rattle.rules.specs.declared.properties.PropertiesFields.{PropertiesFields}
+use Rattle.rules.specs.declared.properties.PropertiesParts.{PropertiesParts}
+
+-- "PrivacyLevel is none of 0, 1, 3, 5, or a signature is present and HashAlgorithm is none of .."
+unfoldable pub authenticationFails : SecurityFields → PropertiesFields → Bool
+authenticationFails s p =
+    not (listed privacyLevels (p .«privacy_level»))
+    || (ltb 0 (s .«signature_size» .0) && not (listed hashAlgorithms (p .«hash_algorithm»)))
+
+-- "EB is set and EncryptionAlgorithm is none of .."
+unfoldable pub decryptionFails : SecurityFields → PropertiesFields → Bool
+decryptionFails s p = eqb (EB s) 1 && not (listed encryptionAlgorithms (p .«encryption_algorithm»))
+
+-- the bytes of a part
+abbrev pub partOf : List ℕ → Part → List ℕ
+partOf s p = within s (p .start .0) (p .length .0)
+
+-- where no SecurityHeader stands first: every field 0, every part empty at 0
+unfoldable pub noSecurity : SecurityHeader
+noSecurity =
+    record {
+      fields =
+          record {
+            flags = 0;
+            «sender_id_size» = bytes 0;
+            «encryption_key_size» = bytes 0;
+            «signature_size» = bytes 0;
+            «sender_cert_size» = bytes 0;
+            «provider_info_size» = bytes 0;
+          };
+      parts =
+          record {
+            «sender_id» = part 0 0;
+            «encryption_key» = part 0 0;
+            signature = part 0 0;
+            «sender_cert» = part 0 0;
+            «provider_info» = part 0 0;
+            length = bytes 0;
+          };
+      «sid_revision» = 0;
+      «sid_sub_authority_count» = 0;
+      «provider_type» = 0;
+    }
+
+unfoldable pub summaryOf : Bool → SecurityHeader → PropertiesFields → PropertiesParts → Summary
+summaryOf first h f parts =
+    record {
+      «security_first» = first;
+      security = h;
+      properties = f;
+      parts = parts;
+      «authentication_fails» = authenticationFails (h .fields) f;
+      «decryption_fails» = decryptionFails (h .fields) f;
+    }
+
+-- where the MessagePropertiesHeader begins, 01's p
+abbrev pub propertiesAt : Summary → ℕ
+propertiesAt m = m .security .parts .length .0
+
+-- "label and provider name by content": the bytes of each, the name without the 4-byte type before it
+unfoldable pub labelOf : Summary → List ℕ → List ℕ
+labelOf m s = partOf s (m .parts .label)
+
+unfoldable pub providerNameOf : Summary → List ℕ → List ℕ
+providerNameOf m s = drop 4 (partOf s (m .security .parts .«provider_info»))
+
+-- "The full reading adds CorrelationID, ApplicationTag and a view of each private part but padding"
+unfoldable pub sectionOf : Summary → List ℕ → Section
+sectionOf m s =
+    record {
+      summary = m;
+      «correlation_id» = part (propertiesAt m + 4) 20;
+      «application_tag» = le 4 (drop (propertiesAt m) s) 28;
+    }

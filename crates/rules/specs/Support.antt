@@ -1,0 +1,32 @@
+-- 01, "The support copy": written to a lent output; refused as reading is, then 13.
+use Prim.Native.Nat.{ℕ}
+use mathlib.Core.Bool.{Bool, cond}
+use mathlib.Core.List.{List, _++_}
+use lib.ListN.{length, drop}
+use lib.Dec.{ltb}
+use Rattle.rules.specs.Judged.{copyOf}
+use Rattle.rules.specs.Reading.{summarize}
+use Rattle.rules.specs.Refusal.{bytes, refusal}
+use Rattle.rules.specs.declared.section.Copied.{Copied}
+use Rattle.rules.specs.declared.section.Copied.the-variants.{Written, Refused as Copied·Refused}
+use Rattle.rules.specs.declared.section.Summarized.{Summarized}
+use Rattle.rules.specs.declared.section.Summarized.the-variants.{Accepted, Refused}
+
+unfoldable pub copyAnswer : List ℕ → Summarized → Copied
+copyAnswer out (Accepted m) =
+    cond (ltb (length out) (m .parts .«section_length» .0)) (Copied·Refused (refusal 13 0))
+    (Written (m .parts .«section_length»))
+copyAnswer out (Refused r) = Copied·Refused r
+
+unfoldable pub copyBytes : List ℕ → List ℕ → Summarized → List ℕ
+copyBytes s out (Accepted m) =
+    cond (ltb (length out) (m .parts .«section_length» .0)) out
+    (copyOf m s ++ drop (m .parts .«section_length» .0) out)
+copyBytes s out (Refused r) = out
+
+-- what the copier answers, and what the lent output then holds
+unfoldable pub supportAnswer : Bool → List ℕ → List ℕ → Copied
+supportAnswer first s out = copyAnswer out (summarize first s)
+
+unfoldable pub supportBytes : Bool → List ℕ → List ℕ → List ℕ
+supportBytes first s out = copyBytes s out (summarize first s)

@@ -1,0 +1,8 @@
+// 01's rules on values, shared by reading and writing: layouts, steps and verdicts. Their definitions are in specs/.
+pub mod class;
+mod layout;
+pub mod properties;
+pub mod refusal;
+pub mod section;
+pub mod security;
+pub mod verdict;

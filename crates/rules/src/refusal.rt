@@ -1,0 +1,41 @@
+// Refusals: 01's number, and the place, which is the offset of the header being read.
+use octets::count::Bytes;
+ghost use mathlib.Core.Path.{_≡_};
+ghost use Rattle.rules.specs.Refusal.{refusal};
+
+pub struct Refusal {
+    pub number: u32,
+    pub place: Bytes,
+}
+
+// What steps that look at content alone find.
+pub enum Checked {
+    Passed,
+    Refused(Refusal),
+}
+
+pub const INPUT_SHORT: u32 = 1;
+
+pub const SENDER_KIND: u32 = 2;
+
+pub const AU_OR_AS: u32 = 3;
+
+pub const EMPTY_OR_DP_CLEAR: u32 = 4;
+
+pub const CERTIFICATE_SIZE: u32 = 5;
+
+pub const IDENTITY: u32 = 6;
+
+pub const PROVIDER: u32 = 7;
+
+pub const ABOVE_THE_LIMIT: u32 = 8;
+
+pub const LABEL_LENGTH: u32 = 9;
+
+pub const CLASS: u32 = 10;
+
+pub const ALLOCATION: u32 = 11;
+
+pub const LABEL: u32 = 12;
+
+pub const OUTPUT_SHORT: u32 = 13;

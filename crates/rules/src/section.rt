@@ -1,0 +1,48 @@
+// A section (01's term: an optional SecurityHeader and a MessagePropertiesHeader) as reading finds it.
+use crate::properties::PropertiesFields;
+use crate::properties::PropertiesParts;
+use crate::refusal::Refusal;
+use crate::security::SecurityHeader;
+use octets::count::Bytes;
+
+// 01: a section has at most so many bytes.
+pub const LIMIT: usize = 4194304;
+
+// Where a part lies, in bytes, counted from the section's first byte.
+pub struct Part {
+    pub start: Bytes,
+    pub length: Bytes,
+}
+
+// 01's summary: every judged field, the parts and both verdicts. Label and provider name are read through their parts.
+pub struct Summary {
+    pub security_first: bool,
+    pub security: SecurityHeader,
+    pub properties: PropertiesFields,
+    pub parts: PropertiesParts,
+    pub authentication_fails: bool,
+    pub decryption_fails: bool,
+}
+
+pub enum Summarized {
+    Accepted(Summary),
+    Refused(Refusal),
+}
+
+// 01's full reading: the summary, and what else the section carries. Private parts are read through their parts.
+pub struct Section {
+    pub summary: Summary,
+    pub correlation_id: Part,
+    pub application_tag: u32,
+}
+
+pub enum Reading {
+    Accepted(Section),
+    Refused(Refusal),
+}
+
+// What the support copy answers: the bytes written, or the refusal.
+pub enum Copied {
+    Written(Bytes),
+    Refused(Refusal),
+}

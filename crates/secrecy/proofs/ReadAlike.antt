@@ -1,0 +1,124 @@
+-- An input that is like an accepted one under its mask reads the same.
+use Prim.Native.Nat.{ℕ, _≤_, _<_}
+use mathlib.Core.Path.{_≡_, refl, sym, ap, _∙_}
+use mathlib.Core.Bool.{Bool, true, false, not, _||_, cond}
+use mathlib.Core.List.{List}
+use native.Mathlib.Omega.{arith}
+use lib.ListN.{length, getD, drop}
+use lib.Dec.{eqb}
+use Rattle.octets.specs.Number.{le}
+use Rattle.octets.specs.Padding.{padded}
+use Rattle.octets.proofs.Laws.Part.{within-none}
+use Rattle.rules.specs.Judged.{judged}
+use Rattle.rules.specs.Properties.{propertiesLength}
+use Rattle.rules.specs.Reading.{securityHeader}
+use Rattle.rules.specs.Security.{ST, securityFields, securityLength, securityContents, identityHead}
+use Rattle.rules.specs.Summary.{partOf, noSecurity, summaryOf, labelOf, providerNameOf, propertiesAt}
+use Rattle.rules.specs.declared.properties.PropertiesFields.{PropertiesFields}
+use Rattle.rules.specs.declared.section.Summary.{Summary}
+use Rattle.rules.specs.declared.security.SecurityHeader.{SecurityHeader}
+use Rattle.rules.proofs.Laws.Accepted.{security-fits, security-fields, properties-fits, SecurityPassed, PropertiesPassed, HeaderPassed, SectionPassed}
+use Rattle.rules.proofs.Laws.Judged.{identity-le-provider, headerMask, alike-judged}
+use Rattle.rules.proofs.Laws.Masked.{Alike}
+use Rattle.secrecy.proofs.Alike.{BothOctets}
+use Rattle.secrecy.proofs.Properties.{SameProperties, properties-alike}
+use Rattle.secrecy.proofs.Security.{SameSecurity, security-alike}
+
+-- what is looked at only where a test says so need be equal only there
+cond-cong : (b : Bool) {x y : ℕ} → (b ≡ true → x ≡ y) → cond b x 0 ≡ cond b y 0
+cond-cong true h = h refl
+cond-cong false h = refl
+
+or-cong : (b : Bool) {x y : Bool} → (b ≡ true → x ≡ y) → (not b || x) ≡ (not b || y)
+or-cong true h = h refl
+or-cong false h = refl
+
+module _ (s t : List ℕ) (h : SecurityHeader) (a : SecurityPassed s h) (e : SameSecurity (h .fields) (h .parts) s t) where
+  -- S10 sees the same
+  head-same : identityHead (h .fields) (partOf s (h .parts .«sender_id»))
+      ≡ identityHead (h .fields) (partOf t (h .parts .«sender_id»))
+  unfolding identityHead
+  head-same =
+      or-cong (eqb (ST (h .fields)) 1) λ one.
+      rw (e .identity one 0 (omega arith), e .identity one 1 (omega arith))
+
+  -- the header holds the same
+  header-same : securityHeader s (h .parts) ≡ securityHeader t (h .parts)
+  unfolding securityHeader
+  header-same =
+      λ i. record {
+        fields = e .fields i;
+        parts = h .parts;
+        «sid_revision» = sid 0 (omega arith) i;
+        «sid_sub_authority_count» = sid 1 (omega arith) i;
+        «provider_type» = le 4 (e .provider i) 0;
+      }
+    where
+      own : securityFields t ≡ h .fields
+      own = sym (e .fields) ∙ sym (security-fields s h a)
+
+      sid : (i : ℕ) → i < 2
+          → cond (eqb (ST (securityFields s)) 1) (getD (partOf s (h .parts .«sender_id»)) i 0) 0
+          ≡ cond (eqb (ST (securityFields t)) 1) (getD (partOf t (h .parts .«sender_id»)) i 0) 0
+      sid i l = rw (e .fields, own) (cond-cong (eqb (ST (h .fields)) 1) (λ one. e .identity one i l))
+
+  -- so each step passes that passed before
+  security-reads : h .parts .length .0 ≤ length t → SecurityPassed t h
+  unfolding securityContents securityLength
+  security-reads room =
+      let size = security-fits (h .fields) 0 (h .parts) (a .fits) .size in
+      record {
+        fixed = omega (arith, identity-le-provider (h .fields));
+        fits = a .fits;
+        reaches = room;
+        contents = rw (sym head-same, sym (e .provider)) (a .contents);
+        header = a .header ∙ header-same;
+      }
+
+-- and so it is with the MessagePropertiesHeader
+properties-reads : (first : Bool) (s t : List ℕ) (m : Summary) → PropertiesPassed first s m
+    → SameProperties (propertiesAt m) (m .parts) s t → m .parts .«section_length» .0 ≤ length t → PropertiesPassed first t m
+unfolding labelOf propertiesLength padded
+properties-reads first s t m a e room =
+    let size = properties-fits (m .properties) (propertiesAt m) (m .parts) (a .fits) .size in
+    record {
+      fixed = omega arith;
+      fits = a .fits;
+      reaches = room;
+      contents = rw (sym (e .label)) (a .contents);
+      summary = a .summary ∙ ap (λ (x : PropertiesFields). summaryOf first (m .security) x (m .parts)) (e .fields);
+    }
+
+-- with a SecurityHeader first or without
+header-reads : (first : Bool) {s t : List ℕ} → BothOctets s t → (h : SecurityHeader) → HeaderPassed first s h
+    → h .parts .length .0 ≤ length t → Alike (headerMask first h) s t
+    → HeaderPassed first t h × (partOf s (h .parts .«provider_info») ≡ partOf t (h .parts .«provider_info»))
+unfolding noSecurity
+header-reads true {s} {t} o h a room alike =
+    let fits = security-fits (h .fields) 0 (h .parts) (a .fits) in
+    let e = security-alike o (h .fields) (h .parts) fits (a .reaches) room .0 alike in
+    (security-reads s t h a e room, e .provider)
+header-reads false {s} {t} o h a room alike =
+    (a, rw a (within-none s 0 ∙ sym (within-none t 0)))
+
+-- t is accepted with the summary m of s, and with its label and provider name
+pub record Reads (first : Bool) (m : Summary) (s t : List ℕ) : Type 0 where
+  pub passed : SectionPassed first t m
+  pub label : labelOf m s ≡ labelOf m t
+  pub name : providerNameOf m s ≡ providerNameOf m t
+
+pub reads : (first : Bool) {s t : List ℕ} → BothOctets s t → (m : Summary) → SectionPassed first s m
+    → m .parts .«section_length» .0 ≤ length t → Alike (judged m) s t → Reads first m s t
+unfolding labelOf providerNameOf
+reads first {s} {t} o m a room alike =
+    let masks = alike-judged first s m a t .0 alike in
+    let p = propertiesAt m in
+    let fits = properties-fits (m .properties) p (m .parts) (a .properties .fits) in
+    let size = fits .size in
+    let header = header-reads first o (m .security) (a .security) (omega arith) (masks .0) in
+    let e = properties-alike o p (m .properties) (m .parts) fits (a .properties .reaches) room .0 (masks .1) in
+    record {
+      passed = record { security = header .0; properties = properties-reads first s t m (a .properties) e room };
+      label = e .label;
+      name = ap (drop 4) (header .1);
+    }

@@ -1,3 +1,4 @@
+pub mod Examples
 pub mod Judged
 pub mod Listed
 pub mod Properties

@@ -1,43 +1,39 @@
 -- 01, "Examples to hold against it": 1 to 5 and 7 to 9, with content that passes S10, S11 and P7.
-use Prim.Native.Nat.{ℕ, zero, suc, _+_, _/_, _%_}
+use Prim.Native.Nat.{ℕ, zero, suc, _+_}
 use mathlib.Core.Bool.{Bool, true, false, _&&_}
 use mathlib.Core.List.{List, [], _∷_, _++_}
 use lib.ListN.{replicate}
 use lib.Dec.{eqb}
+use Rattle.octets.specs.Number.{toLe}
 use Rattle.rules.specs.Reading.{summarize}
 use Rattle.rules.specs.declared.section.Part.{Part}
 use Rattle.rules.specs.declared.section.Summarized.{Summarized}
 use Rattle.rules.specs.declared.section.Summarized.the-variants.{Accepted, Refused}
 use Rattle.rules.specs.declared.section.Summary.{Summary}
 
--- a number of w bytes, written little-endian
-unfoldable pub number : ℕ → ℕ → List ℕ
-number zero n = []
-number (suc w) n = n % 256 ∷ number w (n / 256)
-
 -- a MessagePropertiesHeader with these fields, all others 0, and what follows its fixed bytes
 unfoldable pub properties : (labelLength class size extension : ℕ) → List ℕ → List ℕ
 properties labelLength class size extension rest =
-    number 1 0
-    ++ (number 1 labelLength
-    ++ (number 2 class
+    toLe 1 0
+    ++ (toLe 1 labelLength
+    ++ (toLe 2 class
     ++ (replicate 28 0
-    ++ (number 4 size
-    ++ (number 4 size
+    ++ (toLe 4 size
+    ++ (toLe 4 size
     ++ (replicate 12 0
-    ++ (number 4 extension ++ rest)))))))
+    ++ (toLe 4 extension ++ rest)))))))
 
 -- the fixed bytes of a SecurityHeader, and what follows them
 unfoldable pub security : (flags identity key signature certificate provider : ℕ) → List ℕ → List ℕ
 security flags identity key signature certificate provider rest =
-    number 2 flags
-    ++ (number 2 identity ++ (number 2 key ++ (number 2 signature ++ (number 4 certificate ++ (number 4 provider ++ rest)))))
+    toLe 2 flags
+    ++ (toLe 2 identity ++ (toLe 2 key ++ (toLe 2 signature ++ (toLe 4 certificate ++ (toLe 4 provider ++ rest)))))
 
 -- a label or a name of n units: all but the last are 1
 unfoldable pub text : ℕ → List ℕ
 text zero = []
-text (suc zero) = number 2 0
-text (suc (suc n)) = number 2 1 ++ text (suc n)
+text (suc zero) = toLe 2 0
+text (suc (suc n)) = toLe 2 1 ++ text (suc n)
 
 -- What an answer tells: of a refusal 0, number and place; of an acceptance 1, then where key, signature, certificate, provider info, the MessagePropertiesHeader, label, extension and body begin, where the body ends, and the section's length.
 abbrev pub start : Part → ℕ

@@ -7,16 +7,16 @@ use lib.Dec.{ltb}
 use Rattle.rules.specs.Judged.{copyOf}
 use Rattle.rules.specs.Reading.{summarize}
 use Rattle.rules.specs.Refusal.{bytes, refusal}
-use Rattle.rules.specs.declared.section.Copied.{Copied}
-use Rattle.rules.specs.declared.section.Copied.the-variants.{Written, Refused as Copied·Refused}
+use Rattle.rules.specs.declared.section.Output.{Output}
+use Rattle.rules.specs.declared.section.Output.the-variants.{Written, Refused as Output·Refused}
 use Rattle.rules.specs.declared.section.Summarized.{Summarized}
 use Rattle.rules.specs.declared.section.Summarized.the-variants.{Accepted, Refused}
 
-unfoldable pub copyAnswer : List ℕ → Summarized → Copied
+unfoldable pub copyAnswer : List ℕ → Summarized → Output
 copyAnswer out (Accepted m) =
-    cond (ltb (length out) (m .parts .«section_length» .0)) (Copied·Refused (refusal 13 0))
+    cond (ltb (length out) (m .parts .«section_length» .0)) (Output·Refused (refusal 13 0))
     (Written (m .parts .«section_length»))
-copyAnswer out (Refused r) = Copied·Refused r
+copyAnswer out (Refused r) = Output·Refused r
 
 unfoldable pub copyBytes : List ℕ → List ℕ → Summarized → List ℕ
 copyBytes s out (Accepted m) =
@@ -25,7 +25,7 @@ copyBytes s out (Accepted m) =
 copyBytes s out (Refused r) = out
 
 -- what the copier answers, and what the lent output then holds
-unfoldable pub supportAnswer : Bool → List ℕ → List ℕ → Copied
+unfoldable pub supportAnswer : Bool → List ℕ → List ℕ → Output
 supportAnswer first s out = copyAnswer out (summarize first s)
 
 unfoldable pub supportBytes : Bool → List ℕ → List ℕ → List ℕ

@@ -41,8 +41,8 @@ pub enum Reading {
     Refused(Refusal),
 }
 
-// What the support copy answers: the bytes written, or the refusal.
-pub enum Copied {
+// What a function that writes to a lent output answers: the bytes written, or the refusal.
+pub enum Output {
     Written(Bytes),
     Refused(Refusal),
 }

@@ -10,7 +10,7 @@ use Rattle.rules.specs.Reading.{SameSummary, summarize}
 use Rattle.rules.specs.Refusal.{refusal}
 use Rattle.rules.specs.Support.{supportAnswer, supportBytes}
 use Rattle.rules.specs.declared.refusal.Refusal.{Refusal}
-use Rattle.rules.specs.declared.section.Copied.the-variants.{Written, Refused as Copied·Refused}
+use Rattle.rules.specs.declared.section.Output.the-variants.{Written, Refused as Output·Refused}
 use Rattle.rules.specs.declared.section.Summarized.the-variants.{Accepted, Refused}
 use Rattle.rules.specs.declared.section.Summary.{Summary}
 
@@ -21,9 +21,9 @@ Octets s = (i : ℕ) → getD s i 0 < 256
 -- "A support copy .. is refused exactly when reading is refused, with the same number and place, or when its output is shorter than the section."
 pub record CopyRefused (first : Bool) (s out : List ℕ) : Type 0 where
   pub reading : (r : Refusal) → summarize first s ≡ Refused r
-      → (supportAnswer first s out ≡ Copied·Refused r) × (supportBytes first s out ≡ out)
+      → (supportAnswer first s out ≡ Output·Refused r) × (supportBytes first s out ≡ out)
   pub short : (m : Summary) → summarize first s ≡ Accepted m → length out < m .parts .«section_length» .0
-      → (supportAnswer first s out ≡ Copied·Refused (refusal 13 0)) × (supportBytes first s out ≡ out)
+      → (supportAnswer first s out ≡ Output·Refused (refusal 13 0)) × (supportBytes first s out ≡ out)
   pub room : (m : Summary) → summarize first s ≡ Accepted m → m .parts .«section_length» .0 ≤ length out
       → (supportAnswer first s out ≡ Written (m .parts .«section_length»))
       × (supportBytes first s out ≡ copyOf m s ++ drop (m .parts .«section_length» .0) out)

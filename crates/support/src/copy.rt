@@ -5,7 +5,7 @@ use octets::count::Bytes;
 use reading::section::summarize;
 use rules::refusal;
 use rules::refusal::Refusal;
-use rules::section::Copied;
+use rules::section::Output;
 use rules::section::Summarized;
 use rules::section::Summary;
 ghost use mathlib.Core.Path.{_≡_};
@@ -35,22 +35,22 @@ fn copy_section(s: &[u8], m: Summary, out: &mut [u8])
 
 // Reads the section, and writes its copy where the output has room for it: else, and where reading refuses, the output
 // stays as it is.
-pub fn support_copy(s: &[u8], security_first: bool, out: &mut [u8]) -> Copied
+pub fn support_copy(s: &[u8], security_first: bool, out: &mut [u8]) -> Output
     ensures { λ r. ⌜ r ≡ supportAnswer «security_first» (now (s .entry)) (now (out .entry)) ⌝ }
     ensures { λ _. ⌜ now (out .exit) ≡ supportBytes «security_first» (now (s .entry)) (now (out .entry)) ⌝ }
 {
     match summarize(s, security_first) {
-        Summarized::Refused(r) => Copied::Refused(r),
+        Summarized::Refused(r) => Output::Refused(r),
         Summarized::Accepted(m) => {
             let length = m.parts.section_length;
             if out.len() < length.0 {
-                return Copied::Refused(Refusal {
+                return Output::Refused(Refusal {
                     number: refusal::OUTPUT_SHORT,
                     place: Bytes(0),
                 });
             }
             copy_section(s, m, out);
-            Copied::Written(length)
+            Output::Written(length)
         }
     }
 }

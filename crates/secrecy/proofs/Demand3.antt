@@ -138,7 +138,7 @@ pub demand3 : Demand3
 demand3 =
     record {
       refused = copy-refused;
-      copy = λ first s m bs e. copy-masked first s m e;
+      copy = copy-masked;
       two = λ first s t m n bs bt es et.
           record {
             summaries = (

@@ -41,7 +41,7 @@ pub record TwoAccepted (first : Bool) (s t : List ℕ) (m n : Summary) : Type 0 
 
 pub record Demand3 : Type 0 where
   pub refused : (first : Bool) (s out : List ℕ) → CopyRefused first s out
-  pub copy : (first : Bool) (s : List ℕ) (m : Summary) → Octets s → summarize first s ≡ Accepted m → CopyIsMasked m s
+  pub copy : (first : Bool) (s : List ℕ) (m : Summary) → summarize first s ≡ Accepted m → CopyIsMasked m s
   pub two : (first : Bool) (s t : List ℕ) (m n : Summary) → Octets s → Octets t
       → summarize first s ≡ Accepted m → summarize first t ≡ Accepted n → TwoAccepted first s t m n
   -- "Each copy, read the way its original was and whatever bytes follow it, gives its original's summary."

@@ -1,3 +1,4 @@
+-- The answer of reading and the test on LabelLength pick the case of `labelShown`.
 use borrow.Author.Tests.{eq-eqb, ne-eqb}
 use borrow.Author.Needs.{needs}
 use Rattle.rules.specs.Reading.{labelOr, labelShown}

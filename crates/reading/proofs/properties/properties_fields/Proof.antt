@@ -1,3 +1,4 @@
+-- Each field is the number that its read promises.
 use borrow.Author.Needs.{needs}
 use Rattle.rules.specs.Properties.{propertiesFields}
 use Rattle.reading.proofs.properties.properties_fields.Statement.{statement}

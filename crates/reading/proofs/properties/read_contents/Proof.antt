@@ -1,3 +1,4 @@
+-- P6 and P7 as tested; past them the summary is the one that `summary` promises.
 use mathlib.Core.Path.{ap}
 use Rattle.rules.specs.declared.section.Summarized.the-variants.{Accepted}
 use borrow.Author.Tests.{le-ltb, lt-ltb}

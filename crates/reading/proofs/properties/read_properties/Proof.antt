@@ -1,3 +1,4 @@
+-- What is left behind the SecurityHeader is `drop p s`, so P1 is the test on its length; P2 to P5 are the layout's answer.
 use mathlib.Core.Path.{ap, _∙_}
 use native.Mathlib.Omega.{arith}
 use lib.ListN.{drop, length, length-drop}

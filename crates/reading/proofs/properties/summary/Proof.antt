@@ -1,3 +1,4 @@
+-- Both verdicts are what their functions promise.
 use borrow.Author.Needs.{needs}
 use Rattle.rules.specs.Summary.{summaryOf}
 use Rattle.reading.proofs.properties.summary.Statement.{statement}

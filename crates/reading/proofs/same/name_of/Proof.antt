@@ -1,3 +1,4 @@
+-- Fewer than 4 bytes leave nothing.
 use mathlib.Core.Path.{sym}
 use lib.ListN.{drop-of-length-le}
 use denote.Ref.{now}

@@ -1,3 +1,4 @@
+-- Label and name are the parts that were compared.
 use Rattle.reading.proofs.Laws.Decided.{fails, holds, refuted, shown}
 use mathlib.Core.Path.{ap, sym, _∙_}
 use lib.ListN.{drop}

@@ -1,3 +1,4 @@
+-- A part that differs refutes `SameHeader`; where none does, all four hold.
 use Rattle.reading.proofs.Laws.Decided.{fails, holds, refuted, shown}
 use borrow.Author.Needs.{needs}
 use Rattle.reading.proofs.same.same_header.Statement.{statement}

@@ -1,3 +1,4 @@
+-- A field that differs refutes equality; where none does, the records are equal field by field.
 use mathlib.Core.Path.{ap}
 use Rattle.rules.specs.declared.properties.PropertiesFields.{PropertiesFields}
 use Rattle.reading.proofs.Laws.Decided.{fails, holds}

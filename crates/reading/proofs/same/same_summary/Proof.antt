@@ -1,3 +1,4 @@
+-- A refused input has no summary; a difference in header, properties or contents refutes `SameSummary`; else it holds.
 use Rattle.reading.proofs.Laws.Decided.{fails, holds, refuted, shown}
 use mathlib.Core.Path.{sym, _∙_}
 use Rattle.reading.proofs.Laws.Same.{refused-left, refused-right, same-summary, same-summary-contents, same-summary-header, same-summary-properties}

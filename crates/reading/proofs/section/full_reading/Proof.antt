@@ -1,3 +1,4 @@
+-- ApplicationTag is read at 28 in what is left from the MessagePropertiesHeader on.
 use denote.Ref.{now}
 use Rattle.octets.proofs.Laws.Part.{rest-drop}
 use borrow.Author.Needs.{needs}

@@ -1,3 +1,4 @@
+-- All numbers are 0.
 use mathlib.Core.Path.{refl}
 use Rattle.rules.specs.Summary.{noSecurity}
 use Rattle.reading.proofs.section.no_security.Statement.{statement}

@@ -1,3 +1,4 @@
+-- An accepted section has its 56 fixed bytes in the input.
 use mathlib.Core.Path.{ap, sym, _∙_}
 use Rattle.rules.specs.declared.section.Reading.the-variants.{Accepted}
 use Rattle.rules.proofs.Laws.Accepted.{section-passed}

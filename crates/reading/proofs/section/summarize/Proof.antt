@@ -1,3 +1,4 @@
+-- With a SecurityHeader first, its answer decides; without one, none is there.
 use borrow.Author.Needs.{needs}
 use Rattle.rules.specs.Reading.{afterSecurity, summarize}
 use Rattle.reading.proofs.section.summarize.Statement.{statement}

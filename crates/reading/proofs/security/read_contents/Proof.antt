@@ -1,3 +1,4 @@
+-- S9 to S11 as tested; past them the header is made of what was read.
 use borrow.Author.Tests.{le-ltb, lt-ltb}
 use borrow.Author.Needs.{needs}
 use Rattle.rules.specs.Reading.{securityAfterContents, securityAfterSteps, securityHeader}

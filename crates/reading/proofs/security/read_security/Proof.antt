@@ -1,3 +1,4 @@
+-- S1 as tested; S2 to S8 are the layout's answer.
 use borrow.Author.Tests.{le-ltb, lt-ltb}
 use borrow.Author.Needs.{needs}
 use Rattle.rules.specs.Reading.{readSecurity, securityAfterSteps}

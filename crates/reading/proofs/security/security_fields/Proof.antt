@@ -1,3 +1,4 @@
+-- Each field is the number that its read promises.
 use borrow.Author.Needs.{needs}
 use Rattle.rules.specs.Security.{securityFields}
 use Rattle.reading.proofs.security.security_fields.Statement.{statement}

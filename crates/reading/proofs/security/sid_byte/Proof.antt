@@ -1,3 +1,4 @@
+-- The test picks the case.
 use borrow.Author.Tests.{eq-eqb, ne-eqb}
 use borrow.Author.Needs.{needs}
 use Rattle.reading.proofs.security.sid_byte.Statement.{statement}

@@ -1,3 +1,4 @@
+-- The padding is below 4, so the sum fits.
 use native.Mathlib.Omega.{arith}
 use borrow.Author.Needs.{needs}
 use Rattle.octets.specs.Padding.{padded, padding}

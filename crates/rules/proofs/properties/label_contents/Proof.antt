@@ -1,3 +1,4 @@
+-- The tests that led to each answer pick its case of `labelContents`.
 use borrow.Author.Tests.{eq-eqb, ne-eqb}
 use borrow.Author.Needs.{needs}
 use Rattle.rules.specs.Properties.{labelContents, labelText}

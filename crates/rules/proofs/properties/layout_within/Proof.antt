@@ -1,3 +1,4 @@
+-- A size above the limit makes the section too long by itself; else every sum is small, and the parts lie where `propertiesParts` puts them.
 use Prim.Native.Nat.{ℕ, _+_}
 use mathlib.Core.Path.{_≡_, ap, _∙_}
 use native.Mathlib.Omega.{arith}

@@ -1,3 +1,4 @@
+-- The tests that led to each answer are P2 to P5, in the order of `propertiesSteps`.
 use borrow.Author.Tests.{le-ltb, lt-ltb}
 use borrow.Author.Needs.{needs}
 use Rattle.rules.specs.Properties.{propertiesSteps}

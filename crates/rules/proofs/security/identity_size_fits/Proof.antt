@@ -1,3 +1,4 @@
+-- The tests that led to each answer pick its case of `identitySize`.
 use borrow.Author.Tests.{eq-eqb, le-leb, lt-leb, ne-eqb}
 use Rattle.rules.specs.Security.{identitySize}
 use Rattle.rules.proofs.security.identity_size_fits.Statement.{statement}

@@ -1,3 +1,4 @@
+-- Each test that fails makes the conjunction of `allEmpty` false.
 use borrow.Author.Tests.{eq-eqb, ne-eqb}
 use Rattle.rules.specs.Security.{allEmpty}
 use Rattle.rules.proofs.security.is_empty.Statement.{statement}

@@ -1,3 +1,4 @@
+-- A size above the limit makes the header too long by itself; else every sum is small, and the parts lie where `securityParts` puts them.
 use Prim.Native.Nat.{ℕ}
 use mathlib.Core.Path.{ap, _∙_}
 use native.Mathlib.Omega.{arith}

@@ -1,3 +1,4 @@
+-- The tests that led to each answer pick its case of `providerSize`.
 use borrow.Author.Tests.{eq-eqb, le-ltb, lt-ltb, ne-eqb}
 use Rattle.rules.specs.Security.{providerSize}
 use Rattle.rules.proofs.security.provider_size_fits.Statement.{statement}

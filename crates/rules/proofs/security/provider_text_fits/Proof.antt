@@ -1,3 +1,4 @@
+-- Fewer than 4 bytes leave no name, and no text passes as one; else the name is what is left behind the type.
 use borrow.Author.Tests.{eq-eqb, ne-eqb}
 use mathlib.Core.Path.{_≡_, ap, _∙_}
 use mathlib.Core.List.{[]}

@@ -1,3 +1,4 @@
+-- The tests that led to each answer are S10 and S11.
 use borrow.Author.Needs.{needs}
 use Rattle.rules.specs.Security.{securityContents}
 use Rattle.rules.proofs.security.security_contents.Statement.{statement}

@@ -1,3 +1,4 @@
+-- The tests that led to each answer are S2 to S8, in the order of `securitySteps`.
 use borrow.Author.Tests.{eq-eqb, le-ltb, lt-ltb, ne-eqb}
 use borrow.Author.Needs.{needs}
 use Rattle.rules.specs.Security.{securitySteps}

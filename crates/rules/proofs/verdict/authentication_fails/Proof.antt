@@ -1,3 +1,4 @@
+-- The tests that led to each answer pick its case of `authenticationFails`.
 use borrow.Author.Tests.{le-ltb, lt-ltb}
 use borrow.Author.Needs.{needs}
 use Rattle.rules.specs.Summary.{authenticationFails}

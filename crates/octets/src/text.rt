@@ -1,20 +1,24 @@
 // Text of 16-bit units, of which the last and no other is zero.
 ghost use mathlib.Core.Path.{_≡_};
+ghost use Prim.Native.Nat.{_*_, _≤_};
+ghost use lib.Dec.{eqb};
+ghost use lib.ListN.{length, take};
 ghost use Rattle.octets.specs.Text.{isText, zeros, units};
 
-// How many of the units are zero. No early exit, so that the loop becomes vector code.
-fn zero_units(s: &[u8]) -> usize
-    ensures { λ r. ⌜ r ≡ zeros (units (now (s .entry))) ⌝ }
+// Whether none of the first `end` units is zero. No early exit and no count, so that the loop becomes vector code
+// of 16-bit lanes.
+fn no_zero(s: &[u8], end: usize) -> bool
+    requires { ⌜ 2 * end ≤ length (now s) ⌝ }
+    ensures { λ r. ⌜ r ≡ eqb (zeros (take end (units (now (s .entry))))) 0 ⌝ }
 {
-    let end = s.len() / 2;
-    let mut count = 0;
+    let mut none = true;
     let mut i = 0;
     while i < end {
         let unit = s[2 * i] as u16 + 256 * (s[2 * i + 1] as u16);
-        count += (unit == 0) as usize;
+        none &= unit != 0;
         i += 1;
     }
-    count
+    none
 }
 
 // Whether the bytes are 16-bit units of which the last and no other is zero.
@@ -34,5 +38,5 @@ pub fn is_text(s: &[u8]) -> bool
     if s[n - 1] != 0 {
         return false;
     }
-    zero_units(s) == 1
+    no_zero(s, n / 2 - 1)
 }

@@ -15,7 +15,7 @@ use rules::security::SecurityRead;
 ghost use mathlib.Core.Path.{_≡_};
 ghost use Prim.Native.Nat.{_+_, _≤_};
 ghost use lib.ListN.{length};
-ghost use Rattle.rules.specs.Reading.{summarize, read};
+ghost use Rattle.rules.specs.Reading.{read, securityAt, summarize};
 ghost use Rattle.rules.specs.Summary.{noSecurity, propertiesAt, sectionOf};
 
 // Where no SecurityHeader stands first.
@@ -49,18 +49,24 @@ fn no_security() -> SecurityHeader
     }
 }
 
+fn security_at(s: &[u8], security_first: bool) -> SecurityRead
+    ensures { λ r. ⌜ r ≡ securityAt «security_first» (now (s .entry)) ⌝ }
+{
+    if security_first {
+        return read_security(s);
+    }
+    SecurityRead::Header(no_security())
+}
+
 // The summary of the section at the input's first byte, or the refusal. The caller says whether a SecurityHeader
-// stands first.
+// stands first. (One call of `read_properties`, so that its answer is made in place.)
 pub fn summarize(s: &[u8], security_first: bool) -> Summarized
     ensures { λ r. ⌜ r ≡ summarize «security_first» (now (s .entry)) ⌝ }
 {
-    if security_first {
-        return match read_security(s) {
-            SecurityRead::Refused(r) => Summarized::Refused(r),
-            SecurityRead::Header(security) => read_properties(true, s, security),
-        };
+    match security_at(s, security_first) {
+        SecurityRead::Refused(r) => Summarized::Refused(r),
+        SecurityRead::Header(security) => read_properties(security_first, s, security),
     }
-    read_properties(false, s, no_security())
 }
 
 fn full_reading(s: &[u8], summary: Summary) -> Section

@@ -27,7 +27,7 @@ fn security_fields(s: &[u8]) -> SecurityFields
     ensures { λ r. ⌜ r ≡ securityFields (now (s .entry)) ⌝ }
 {
     SecurityFields {
-        flags: u16_at(s, 0) % 4096,
+        flags: (u16_at(s, 0) % 4096) as u32,
         sender_id_size: Bytes(u16_at(s, 2) as usize),
         encryption_key_size: Bytes(u16_at(s, 4) as usize),
         signature_size: Bytes(u16_at(s, 6) as usize),
@@ -37,7 +37,7 @@ fn security_fields(s: &[u8]) -> SecurityFields
 }
 
 // A byte of the identity for ST 1, else 0.
-fn sid_byte(flags: u16, identity: &[u8], at: usize) -> u8
+fn sid_byte(flags: u32, identity: &[u8], at: usize) -> u8
     ensures { λ r. ⌜ r ≡ cond (eqb (flags % 16) 1) (getD (now (identity .entry)) at 0) 0 ⌝ }
 {
     if flags % 16 == 1 {

@@ -74,14 +74,18 @@ readProperties first s h =
     (propertiesAfterSteps first s h
     (propertiesSteps (propertiesFields (drop (h .parts .length .0) s)) (h .parts .length .0)))
 
-unfoldable pub afterSecurity : List ℕ → SecurityRead → Summarized
-afterSecurity s (Header h) = readProperties true s h
-afterSecurity s (Security·Refused r) = Refused r
+-- the SecurityHeader, where `first` says that one stands first
+unfoldable pub securityAt : Bool → List ℕ → SecurityRead
+securityAt true s = readSecurity s
+securityAt false s = Header noSecurity
 
--- the summary, or the refusal; `first` says whether a SecurityHeader stands first
+unfoldable pub afterSecurity : Bool → List ℕ → SecurityRead → Summarized
+afterSecurity first s (Header h) = readProperties first s h
+afterSecurity first s (Security·Refused r) = Refused r
+
+-- the summary, or the refusal
 unfoldable pub summarize : Bool → List ℕ → Summarized
-summarize true s = afterSecurity s (readSecurity s)
-summarize false s = readProperties false s noSecurity
+summarize first s = afterSecurity first s (securityAt first s)
 
 unfoldable pub fullReading : List ℕ → Summarized → Reading
 fullReading s (Accepted m) = Reading·Accepted (sectionOf m s)

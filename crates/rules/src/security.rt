@@ -17,8 +17,9 @@ ghost use Rattle.rules.specs.Refusal.{refusal, limit};
 ghost use Rattle.rules.specs.Security.{allEmpty, identitySize, identityHead, providerSize, providerText, securityContents, securityLength, securityParts, securitySteps};
 
 // The judged fields of the 16 fixed bytes. Of Flags the bits 0 to 11: the four X bits are private.
+// (32 bits wide, so that no gap in the struct is copied piecemeal.)
 pub struct SecurityFields {
-    pub flags: u16,
+    pub flags: u32,
     pub sender_id_size: Bytes,
     pub encryption_key_size: Bytes,
     pub signature_size: Bytes,
@@ -78,7 +79,7 @@ fn is_empty(f: SecurityFields) -> bool
 }
 
 // S6
-fn identity_size_fits(st: u16, size: usize) -> bool
+fn identity_size_fits(st: u32, size: usize) -> bool
     ensures { λ r. ⌜ r ≡ identitySize st size ⌝ }
 {
     if st == 0 {
@@ -97,7 +98,7 @@ fn identity_size_fits(st: u16, size: usize) -> bool
 }
 
 // S7
-fn provider_size_fits(de: u16, signature: usize, size: usize) -> bool
+fn provider_size_fits(de: u32, signature: usize, size: usize) -> bool
     ensures { λ r. ⌜ r ≡ providerSize de signature size ⌝ }
 {
     if de == 1 {

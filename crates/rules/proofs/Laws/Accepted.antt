@@ -10,7 +10,7 @@ use lib.ListN.{length, drop, length-drop}
 use lib.Dec.{eqb, ltb, leb}
 use Rattle.rules.specs.Listed.{listed, classes}
 use Rattle.rules.specs.Properties.{propertiesFields, propertiesLength, propertiesParts, propertiesSteps, labelContents}
-use Rattle.rules.specs.Reading.{readSecurity, securityAfterSteps, securityAfterContents, securityHeader, readProperties, propertiesAfterSteps, propertiesAfterContents, afterSecurity, summarize}
+use Rattle.rules.specs.Reading.{readSecurity, securityAfterSteps, securityAfterContents, securityHeader, readProperties, propertiesAfterSteps, propertiesAfterContents, afterSecurity, securityAt, summarize}
 use Rattle.rules.specs.Refusal.{limit}
 use Rattle.rules.specs.Security.{ST, securityFields, securityLength, securityParts, securitySteps, securityContents, identitySize, providerSize, allEmpty, AU, AS, DE, DP}
 use Rattle.rules.specs.Summary.{partOf, noSecurity, summaryOf, labelOf, propertiesAt}
@@ -231,7 +231,7 @@ properties-passed first s h m = (
 )
 
 section-security : (s : List ℕ) (r : SecurityRead) (m : Summary)
-    → readSecurity s ≡ r → afterSecurity s r ≡ Accepted m → SectionPassed true s m
+    → readSecurity s ≡ r → afterSecurity true s r ≡ Accepted m → SectionPassed true s m
 unfolding afterSecurity
 section-security s (Header h) m f e =
     let a = properties-passed true s h m .0 e in
@@ -240,7 +240,7 @@ section-security s (Security·Refused r) m f e = absurd (refused≢ e)
 
 -- an input is accepted exactly where it has passed
 pub section-passed : (first : Bool) (s : List ℕ) (m : Summary) → (summarize first s ≡ Accepted m) ↔ SectionPassed first s m
-unfolding summarize afterSecurity
+unfolding summarize afterSecurity securityAt
 section-passed true s m = (
   section-security s (readSecurity s) m refl,
   λ a.

@@ -1,16 +1,19 @@
 -- `octets::text::is_text` meets its contract: the last and no other unit is zero exactly where the last one is and one unit is (`isText-counted`).
 -- Assumes nothing.
-use Prim.Native.Nat.{ℕ, suc, _+_, _*_, _-_, _%_, _<_}
+use Prim.Native.Nat.{ℕ, suc, zero, _+_, _*_, _-_, _/_, _%_, _<_}
 use denote.Ref.{now}
-use mathlib.Core.Path.{_≡_, sym, ap}
+use mathlib.Core.Path.{_≡_, refl, sym, ap, _∙_}
+use mathlib.Core.Bool.{Bool, cond}
+use lib.Dec.{eqb, eqb·suc-zero}
+use lib.Seq.{take-all}
 use mathlib.Core.List.{List}
 use native.Mathlib.Omega.{arith}
 use borrow.Author.Tests.{eq-eqb, ne-eqb}
 use borrow.Author.Needs.{needs}
-use lib.ListN.{length, getD, drop-of-length-le}
+use lib.ListN.{length, getD, take, drop-of-length-le}
 use Rattle.octets.specs.Number.{le}
-use Rattle.octets.specs.Text.{isText, lastOnly, units}
-use Rattle.octets.proofs.Laws.Text.{isText-counted}
+use Rattle.octets.specs.Text.{isText, lastOnly, units, zeros}
+use Rattle.octets.proofs.Laws.Text.{isText-counted, length-units, getD-units, zeros-take-suc}
 use Rattle.octets.proofs.text.is_text.Statement.{statement}
 use Rattle.octets.proofs.text.is_text.Tie as tie
 
@@ -48,13 +51,35 @@ returns-4 c =
     let s = now (c .before .before .before .before .before .before .before .args .s) in
     rw (isText-counted s (omega arith) (omega arith), ne-eqb (le 2 s (length s - 2)) 0 (λ e. omega (arith, last-unit s (omega arith))))
 
-zero-units-requires : tie.Need-zero-units-requires
-zero-units-requires c κs = search needs
+succ-one : (z : ℕ) → eqb z 0 ≡ eqb (z + 1) 1
+succ-one zero = refl
+succ-one (suc z) = rw (eqb·suc-zero, ne-eqb (suc z + 1) 1 (λ e. omega arith))
+
+-- where the last unit is zero, one unit is zero exactly where none before it is
+all-but-last : (s : List ℕ) → length s % 2 ≡ 0 → 0 < length s → le 2 s (length s - 2) ≡ 0
+    → eqb (zeros (take (length s / 2 - 1) (units s))) 0 ≡ eqb (zeros (units s)) 1
+all-but-last s even some last =
+    let k = length s / 2 - 1 in
+    let us = units s in
+    let n : length us ≡ length s / 2 = length-units s in
+    let p : 2 * k ≡ length s - 2 = omega arith in
+    let l : getD us k 0 ≡ 0 = getD-units s k (omega arith) ∙ ap (λ (at : ℕ). le 2 s at) p ∙ last in
+    let w : take (suc k) us ≡ us = take-all (suc k) us (omega arith) in
+    let t : zeros us ≡ zeros (take k us) + 1 =
+    sym (ap zeros w) ∙ zeros-take-suc us k (omega arith) ∙ ap (λ (t : Bool). zeros (take k us) + cond t 1 0) (eq-eqb (getD us k 0) 0 l) in
+    succ-one (zeros (take k us)) ∙ ap (λ (z : ℕ). eqb z 1) (sym t)
+
+sub-no-zero : tie.Need-sub-no-zero
+sub-no-zero c = omega arith
+
+no-zero-requires : tie.Need-no-zero-requires
+no-zero-requires c κs = omega arith
 
 returns-5 : tie.Need-returns-5
 returns-5 c =
     let s = now (c .before .before .before .before .before .before .before .before .args .s) in
-    rw (isText-counted s (omega arith) (omega arith), eq-eqb (le 2 s (length s - 2)) 0 (omega (arith, last-unit s (omega arith))), c .zero-units .ensures)
+    let z : le 2 s (length s - 2) ≡ 0 = omega (arith, last-unit s (omega arith)) in
+    rw (isText-counted s (omega arith) (omega arith), eq-eqb (le 2 s (length s - 2)) 0 z) (c .no-zero .ensures ∙ all-but-last s (omega arith) (omega arith) z)
 
 pub is-text-spec : {M : Type 1} → statement M
 is-text-spec =
@@ -68,5 +93,6 @@ is-text-spec =
     sub-if4
     shared-slice-read-if4
     returns-4
-    zero-units-requires
+    sub-no-zero
+    no-zero-requires
     returns-5)

@@ -7,35 +7,38 @@ use Rattle.reading.proofs.security.security_fields.Tie as tie
 u16-at-requires : tie.Need-u16-at-requires
 u16-at-requires c κs = search needs
 
+cast-t4 : tie.Need-cast-t4
+cast-t4 c = search needs
+
 u16-at-requires-2 : tie.Need-u16-at-requires-2
 u16-at-requires-2 c κs = search needs
 
-cast-t5 : tie.Need-cast-t5
-cast-t5 c = search needs
+cast-t6 : tie.Need-cast-t6
+cast-t6 c = search needs
 
 u16-at-requires-3 : tie.Need-u16-at-requires-3
 u16-at-requires-3 c κs = search needs
 
-cast-t8 : tie.Need-cast-t8
-cast-t8 c = search needs
+cast-t9 : tie.Need-cast-t9
+cast-t9 c = search needs
 
 u16-at-requires-4 : tie.Need-u16-at-requires-4
 u16-at-requires-4 c κs = search needs
 
-cast-t11 : tie.Need-cast-t11
-cast-t11 c = search needs
+cast-t12 : tie.Need-cast-t12
+cast-t12 c = search needs
 
 u32-at-requires : tie.Need-u32-at-requires
 u32-at-requires c κs = search needs
 
-cast-t14 : tie.Need-cast-t14
-cast-t14 c = search needs
+cast-t15 : tie.Need-cast-t15
+cast-t15 c = search needs
 
 u32-at-requires-2 : tie.Need-u32-at-requires-2
 u32-at-requires-2 c κs = search needs
 
-cast-t17 : tie.Need-cast-t17
-cast-t17 c = search needs
+cast-t18 : tie.Need-cast-t18
+cast-t18 c = search needs
 
 returns : tie.Need-returns
 unfolding securityFields
@@ -46,14 +49,15 @@ security-fields-spec =
     tie.close
     (tie.spec
     u16-at-requires
+    cast-t4
     u16-at-requires-2
-    cast-t5
+    cast-t6
     u16-at-requires-3
-    cast-t8
+    cast-t9
     u16-at-requires-4
-    cast-t11
+    cast-t12
     u32-at-requires
-    cast-t14
+    cast-t15
     u32-at-requires-2
-    cast-t17
+    cast-t18
     returns)

@@ -1,51 +1,46 @@
--- `octets::text::zero_units` meets its contract. The loop's invariant: `count` is how many of the first `i` units are zero.
--- The measure is what is left of the units. Assumes nothing.
-use Prim.Native.Nat.{ℕ, _+_, _*_, _-_, _/_, _≤_, _<_}
+-- The loop's invariant: `none` says that none of the first `i` units is zero. The measure is what is left of them.
+use Prim.Native.Nat.{ℕ, suc, zero, _+_, _*_, _-_, _/_, _≤_, _<_}
 use denote.Ref.{now}
-use mathlib.Core.Path.{_≡_, refl, ap, _∙_}
-use mathlib.Core.Bool.{Bool, true, false, cond}
+use mathlib.Core.Path.{_≡_, refl, ap, sym, _∙_}
+use mathlib.Core.Bool.{Bool, true, false, not, _&&_, cond}
 use mathlib.Core.List.{List}
 use native.Mathlib.Numerals.{add-one}
 use native.Mathlib.Omega.{arith}
-use mir.Val.{boolByte}
-use lib.Dec.{eqb}
+use lib.Dec.{eqb, eqb·suc-zero}
+use borrow.Author.Tests.{ne-eqb}
 use lib.ListN.{length, getD, take}
-use lib.Seq.{take-all}
 use Rattle.octets.specs.Number.{le}
 use Rattle.octets.specs.Text.{units, zeros}
 use Rattle.octets.proofs.Laws.Text.{length-units, getD-units, zeros-take-suc}
-use Rattle.octets.proofs.text.zero_units.Statement.{statement}
-use Rattle.octets.proofs.text.zero_units.Tie as tie
+use Rattle.octets.proofs.text.no_zero.Statement.{statement}
+use Rattle.octets.proofs.text.no_zero.Tie as tie
 
 abbrev Inv-loop : tie.InvT-loop
-Inv-loop s end count₀ i₀ count i = (i ≤ end) × (count ≤ i) × (count ≡ zeros (take i (units s)))
+Inv-loop s end none₀ i₀ none i = (i ≤ end) × (none ≡ eqb (zeros (take i (units s))) 0)
 
 abbrev μ-loop : tie.MeasureT-loop
-μ-loop s end count₀ i₀ count i = end - i
-
--- a test as the number that the loop adds
-flag-cond : (t : Bool) → boolByte t ≡ cond t 1 0
-flag-cond true = refl
-flag-cond false = refl
-
-flag-le : (t : Bool) → boolByte t ≤ 1
-flag-le true = omega arith
-flag-le false = omega arith
+μ-loop s end none₀ i₀ none i = end - i
 
 abbrev is-zero : List ℕ → ℕ → Bool
 is-zero s i = eqb (getD s (2 * i) 0 + 256 * getD s (2 * i + 1) 0) 0
 
+none-more : (z : ℕ) (t : Bool) → (eqb z 0 && not t) ≡ eqb (z + cond t 1 0) 0
+none-more zero true = refl
+none-more zero false = refl
+none-more (suc z) true = rw (eqb·suc-zero, ne-eqb (suc z + 1) 0 (λ e. omega arith))
+none-more (suc z) false = rw (eqb·suc-zero, ne-eqb (suc z + 0) 0 (λ e. omega arith))
+
 one-more : (s : List ℕ) (i : ℕ) → i < length s / 2
-    → zeros (take (i + 1) (units s)) ≡ zeros (take i (units s)) + boolByte (is-zero s i)
+    → eqb (zeros (take (i + 1) (units s))) 0 ≡ (eqb (zeros (take i (units s))) 0 && not (is-zero s i))
 unfolding le
 one-more s i h =
     let n : length (units s) ≡ length s / 2 = length-units s in
     let u : getD (units s) i 0 ≡ getD s (2 * i) 0 + 256 * getD s (2 * i + 1) 0 = simp add-one (omega (arith, getD-units s i h)) in
-    rw (flag-cond, ← u, add-one) (zeros-take-suc (units s) i (omega arith))
+    rw (none-more, ← u, add-one) (ap (λ (z : ℕ). eqb z 0) (zeros-take-suc (units s) i (omega arith)))
 
 loop-holds : tie.Need-loop-holds Inv-loop μ-loop
 unfolding zeros
-loop-holds c = (omega arith, omega arith, refl)
+loop-holds c = (omega arith, refl)
 
 mul-unit : tie.Need-mul-unit Inv-loop μ-loop
 mul-unit c = omega arith
@@ -76,13 +71,6 @@ add-unit-2 c =
     let i = c .before .before .before .loop .i in
     omega (arith, c .shared-slice-known2 .given (2 * i), c .shared-slice-known2 .given (2 * i + 1))
 
-cast-count : tie.Need-cast-count Inv-loop μ-loop
-cast-count c = tt
-
-add-count : tie.Need-add-count Inv-loop μ-loop
-add-count c =
-    omega (arith, flag-le (is-zero (now (c .before .before .before .before .args .s)) (c .before .before .before .loop .i)))
-
 add-i : tie.Need-add-i Inv-loop μ-loop
 add-i c = omega arith
 
@@ -93,16 +81,17 @@ loop-again : tie.Need-loop-again Inv-loop μ-loop
 loop-again c =
     let s = now (c .before .before .before .before .args .s) in
     let l = c .before .before .before .loop in
-    omega (arith, flag-le (is-zero s (l .i)), one-more s (l .i) (omega arith))
+    (omega arith, rw (l .inv .1) (sym (one-more s (l .i) (omega arith))))
 
 returns : tie.Need-returns Inv-loop μ-loop
 returns c =
-    let us = units (now (c .before .before .args .s)) in
-    let n = length-units (now (c .before .before .args .s)) in
-    c .before .loop .inv .2 ∙ ap zeros (take-all (c .before .loop .i) us (omega arith))
+    let l = c .before .loop in
+    let s = now (c .before .before .args .s) in
+    let e : l .i ≡ c .before .before .args .end = omega arith in
+    l .inv .1 ∙ ap (λ (k : ℕ). eqb (zeros (take k (units s))) 0) e
 
-pub zero-units-spec : {M : Type 1} → statement M
-zero-units-spec =
+pub no-zero-spec : {M : Type 1} → statement M
+no-zero-spec =
     tie.close
     (tie.spec
     Inv-loop
@@ -117,8 +106,6 @@ zero-units-spec =
     cast-unit-2
     mul-unit-3
     add-unit-2
-    cast-count
-    add-count
     add-i
     loop-less
     loop-again

@@ -1,12 +1,12 @@
 -- Little-endian numbers, over the width.
-use Prim.Native.Nat.{ℕ, zero, suc, _+_, _*_, _^_, _≤_, _<_}
-use mathlib.Core.Path.{_≡_, refl}
-use mathlib.Core.List.{List}
+use Prim.Native.Nat.{ℕ, zero, suc, _+_, _*_, _/_, _%_, _^_, _≤_, _<_}
+use mathlib.Core.Path.{_≡_, refl, ap}
+use mathlib.Core.List.{List, [], _∷_, _++_}
 use native.Mathlib.Nat.{pow-suc, add-zero, add-assoc}
 use native.Mathlib.Omega.{arith}
-use lib.ListN.{length, getD, drop, List·getD-eq-default}
-use lib.Seq.{getD-drop}
-use Rattle.octets.specs.Number.{le}
+use lib.ListN.{length, getD, take, drop, List·getD-eq-default}
+use lib.Seq.{getD-drop, getD-append-add, drop-cons}
+use Rattle.octets.specs.Number.{le, toLe}
 
 -- past the end there is nothing
 pub le-out : (w : ℕ) (s : List ℕ) (at : ℕ) → length s ≤ at → le w s at ≡ 0
@@ -55,3 +55,35 @@ le-inj (suc w) s t at bt hs ht e (suc i) h =
 pub le-drop : (w : ℕ) (s : List ℕ) (p at : ℕ) → le w (drop p s) at ≡ le w s (p + at)
 le-drop w s p at =
     le-cong w (drop p s) s at (p + at) (λ i l. rw add-assoc (getD-drop p s (at + i) 0))
+
+-- a number behind other bytes
+pub le-append : (w : ℕ) (xs ys : List ℕ) (at k : ℕ) → length xs + at ≡ k → le w (xs ++ ys) k ≡ le w ys at
+le-append w xs ys at k e =
+    le-cong w (xs ++ ys) ys k at (λ i l. rw (← e, add-assoc) (getD-append-add xs ys (at + i) 0))
+
+pub length-toLe : (w n : ℕ) → length (toLe w n) ≡ w
+unfolding toLe
+length-toLe zero n = refl
+length-toLe (suc w) n = ap suc (length-toLe w (n / 256))
+
+-- a number that fits in its bytes is read from them again
+pub le-toLe : (w n : ℕ) → n < 256 ^ w → le w (toLe w n) 0 ≡ n
+unfolding le toLe
+le-toLe zero n h = omega arith
+le-toLe (suc w) n h =
+    let e : 256 ^ suc w ≡ 256 ^ w * 256 = pow-suc 256 w in
+    let r : le w (toLe w (n / 256)) 0 ≡ n / 256 = le-toLe w (n / 256) (omega arith) in
+    let a : le w (toLe (suc w) n) 1 ≡ le w (toLe w (n / 256)) 0 =
+    le-append w (n % 256 ∷ []) (toLe w (n / 256)) 0 1 refl in
+    omega arith
+
+-- the bytes of a number that was read are those it was read from
+pub toLe-le : (w : ℕ) (s : List ℕ) (at : ℕ) → ((i : ℕ) → getD s i 0 < 256) → at + w ≤ length s
+    → toLe w (le w s at) ≡ take w (drop at s)
+unfolding le toLe
+toLe-le zero s at b h = refl
+toLe-le (suc w) s at b h =
+    let low : (getD s at 0 + 256 * le w s (suc at)) % 256 ≡ getD s at 0 = omega (arith, b at) in
+    let high : (getD s at 0 + 256 * le w s (suc at)) / 256 ≡ le w s (suc at) = omega (arith, b at) in
+    rw (low, high, drop-cons s at 0 (omega arith))
+    (ap (λ (r : List ℕ). getD s at 0 ∷ r) (toLe-le w s (suc at) b (omega arith)))

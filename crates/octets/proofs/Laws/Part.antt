@@ -1,13 +1,13 @@
 -- A part of a row of bytes.
 use Prim.Native.Nat.{ℕ, _+_, _-_, _≤_, _<_}
-use mathlib.Core.Path.{_≡_, refl}
-use mathlib.Core.List.{List, []}
+use mathlib.Core.Path.{_≡_, refl, sym, ap, _∙_}
+use mathlib.Core.List.{List, [], _∷_, _++_}
 use mathlib.Core.Bool.{Bool, true, false, cond}
 use native.Mathlib.Omega.{arith}
 use borrow.Author.Tests.{le-ltb}
-use lib.ListN.{length, getD, take, drop, length-drop}
+use lib.ListN.{length, getD, take, drop, length-append, length-drop}
 use lib.Dec.{leb·suc-zero}
-use lib.Seq.{length-take-le, getD-take, getD-drop, take-all}
+use lib.Seq.{length-take-le, getD-take, getD-drop, take-all, take-at, drop-drop, drop-append-seam}
 use Rattle.octets.specs.Part.{within}
 
 cond-same : (b : Bool) → cond {A = List ℕ} b [] [] ≡ []
@@ -36,3 +36,15 @@ module _ (s : List ℕ) (at n : ℕ) (h : at + n ≤ length s) where
 -- the part from an offset to the end is what is left when as many bytes are dropped
 pub rest-drop : (s : List ℕ) (at : ℕ) → take (length s - at) (drop at s) ≡ drop at s
 rest-drop s at = take-all (length s - at) (drop at s) (omega (arith, length-drop at s))
+
+-- in a row of parts, what stands behind one
+pub drop-next : (s xs ys : List ℕ) (at k : ℕ) → drop at s ≡ xs ++ ys → at + length xs ≡ k → drop k s ≡ ys
+drop-next s xs ys at k row e = rw (← e, ← drop-drop (length xs) at s, row) (drop-append-seam xs ys)
+
+-- in a row of parts, one at its place
+pub within-row : (s xs ys : List ℕ) (at n : ℕ) → drop at s ≡ xs ++ ys → length xs ≡ n → within s at n ≡ xs
+within-row s [] ys at n row e = rw (← e) (within-none s at)
+within-row s (x ∷ xs) ys at n row e =
+    let size : length s - at ≡ length (x ∷ xs) + length ys =
+    sym (length-drop at s) ∙ ap length row ∙ length-append (x ∷ xs) ys in
+    rw (within-in s at n (omega arith), row) (take-at (x ∷ xs) ys n e)

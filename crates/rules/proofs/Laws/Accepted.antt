@@ -2,7 +2,7 @@
 use Prim.Native.Nat.{ℕ, _+_, _-_, _%_, _≤_}
 use mathlib.Core.Path.{_≡_, refl, sym, ap, subst}
 use mathlib.Core.Logic.{_↔_}
-use mathlib.Core.Bool.{Bool, true, false, not, _&&_, _||_, cond, and-eq-true-iff}
+use mathlib.Core.Bool.{Bool, true, false, not, _&&_, _||_, cond, and-eq-true-iff, true≢false}
 use mathlib.Core.List.{List}
 use native.Mathlib.Omega.{arith}
 use borrow.Author.Tests.{ltb-false, le-ltb, not-false, eqb-true, leb-true}
@@ -32,9 +32,14 @@ use Rattle.rules.specs.declared.security.SecurityRead.{SecurityRead}
 use Rattle.rules.specs.declared.security.SecurityRead.the-variants.{Header, Refused as Security·Refused}
 
 -- a step that passed: its test is false, and the answer is that of the steps after it
-passed : {A : Type 0} (b : Bool) {x y z : A} → ¬ (x ≡ z) → cond b x y ≡ z → (b ≡ false) × (y ≡ z)
+pub passed : {A : Type 0} (b : Bool) {x y z : A} → ¬ (x ≡ z) → cond b x y ≡ z → (b ≡ false) × (y ≡ z)
 passed true other e = absurd (other e)
 passed false other e = (refl, e)
+
+-- neither of two tests
+pub neither : (a b : Bool) → (a || b) ≡ false → (a ≡ false) × (b ≡ false)
+neither true b e = absurd (true≢false e)
+neither false b e = (refl, e)
 
 -- a refusal is no other answer
 layout≢ : {r : Refusal} {parts : SecurityParts} → ¬ (Layout·Refused r ≡ Security·Fits parts)
@@ -49,8 +54,9 @@ properties≢ e = let z : _≡_ {A = ℕ} 0 1 = cc in omega arith
 refused≢ : {r : Refusal} {m : Summary} → ¬ (Refused r ≡ Accepted m)
 refused≢ e = let z : _≡_ {A = ℕ} 0 1 = cc in omega arith
 
--- what S6 to S8 ask, and the layout, where S2 to S8 pass
+-- what S5 to S8 ask, and the layout, where S2 to S8 pass
 pub record SecurityFits (f : SecurityFields) (parts : SecurityParts) : Type 0 where
+  pub cert : f .«sender_cert_size» .0 ≤ 65535
   pub identity : identitySize (ST f) (f .«sender_id_size» .0) ≡ true
   pub provider : providerSize (DE f) (f .«signature_size» .0) (f .«provider_info_size» .0) ≡ true
   pub small : securityLength f ≤ limit
@@ -64,18 +70,31 @@ security-fits f at parts e =
     let s3 = passed (ltb 2 (ST f)) layout≢ e .1 in
     let s4 = passed (not (eqb (AU f) 0) || not (eqb (AS f) 0)) layout≢ s3 .1 in
     let s5 = passed (allEmpty f || eqb (DP f) 0) layout≢ s4 .1 in
-    let s6 = passed (ltb 65535 (f .«sender_cert_size» .0)) layout≢ s5 .1 in
-    let s7 = passed (not (identitySize (ST f) (f .«sender_id_size» .0))) layout≢ s6 in
+    let s6 = passed (ltb 65535 (f .«sender_cert_size» .0)) layout≢ s5 in
+    let s7 = passed (not (identitySize (ST f) (f .«sender_id_size» .0))) layout≢ (s6 .1) in
     let s8 = passed (not (providerSize (DE f) (f .«signature_size» .0) (f .«provider_info_size» .0))) layout≢ (s7 .1) in
     let fits = passed (ltb limit (securityLength f)) layout≢ (s8 .1) in
     let layout : parts ≡ securityParts f = cc (fits .1) in
     record {
+      cert = ltb-false 65535 (f .«sender_cert_size» .0) (s6 .0);
       identity = not-false (identitySize (ST f) (f .«sender_id_size» .0)) (s7 .0);
       provider = not-false (providerSize (DE f) (f .«signature_size» .0) (f .«provider_info_size» .0)) (s8 .0);
       small = ltb-false limit (securityLength f) (fits .0);
       layout = layout;
       size = ap (λ (x : SecurityParts). x .length .0) layout;
     }
+
+-- S6: no identity has more than 68 bytes
+pub identity-small : (st n : ℕ) → identitySize st n ≡ true → n ≤ 68
+unfolding identitySize
+identity-small st n e = go (eqb st 0) (eqb st 1) e
+  where
+    go : (a b : Bool) → cond a (eqb n 0) (cond b (leb 8 n && leb n 68 && eqb (n % 4) 0) (eqb n 16)) ≡ true → n ≤ 68
+    go true b e = omega (arith, eqb-true n 0 e)
+    go false true e =
+        let sizes = and-eq-true-iff (leb 8 n && leb n 68) (eqb (n % 4) 0) .0 e .0 in
+        leb-true n 68 (and-eq-true-iff (leb 8 n) (leb n 68) .0 sizes .1)
+    go false false e = omega (arith, eqb-true n 16 e)
 
 -- S6: an identity of ST 1 has at least 8 bytes
 pub identity-le : (st n : ℕ) → identitySize st n ≡ true → eqb st 1 ≡ true → 8 ≤ n
@@ -85,9 +104,10 @@ identity-le st n e one =
     let sizes = and-eq-true-iff (leb 8 n && leb n 68) (eqb (n % 4) 0) .0 at-one .0 in
     leb-true 8 n (and-eq-true-iff (leb 8 n) (leb n 68) .0 sizes .0)
 
--- what P2 and P5 ask, and the layout, where P2 to P5 pass
+-- what P2, P4 and P5 ask, and the layout, where P2 to P5 pass
 pub record PropertiesFits (f : PropertiesFields) (p : ℕ) (parts : PropertiesParts) : Type 0 where
   pub label : f .«label_length» .0 ≤ 250
+  pub allocation : f .«allocation_body_size» .0 ≤ limit
   pub small : p + propertiesLength f ≤ limit
   pub layout : parts ≡ propertiesParts p f
   pub size : parts .«section_length» .0 ≡ p + propertiesLength f
@@ -99,11 +119,12 @@ properties-fits f p parts e =
     let p3 = passed (ltb 250 (f .«label_length» .0)) properties≢ e in
     let p4 = passed (not (listed classes (f .«message_class»))) properties≢ (p3 .1) .1 in
     let allocated = f .«allocation_body_size» .0 in
-    let p5 = passed (ltb allocated (f .«message_size» .0) || ltb limit allocated) properties≢ p4 .1 in
-    let fits = passed (ltb limit (p + propertiesLength f)) properties≢ p5 in
+    let p5 = passed (ltb allocated (f .«message_size» .0) || ltb limit allocated) properties≢ p4 in
+    let fits = passed (ltb limit (p + propertiesLength f)) properties≢ (p5 .1) in
     let layout : parts ≡ propertiesParts p f = cc (fits .1) in
     record {
       label = ltb-false 250 (f .«label_length» .0) (p3 .0);
+      allocation = ltb-false limit allocated (neither (ltb allocated (f .«message_size» .0)) (ltb limit allocated) (p5 .0) .1);
       small = ltb-false limit (p + propertiesLength f) (fits .0);
       layout = layout;
       size = ap (λ (x : PropertiesParts). x .«section_length» .0) layout;

@@ -23,10 +23,15 @@ min-cond : (b : Bool) (n : ℕ) → cond b (min 2 n) 0 ≤ n
 min-cond true n = omega arith
 min-cond false n = omega arith
 
--- the judged identity bytes are identity bytes, and those stand before the provider info
+-- the judged identity bytes are identity bytes
+pub judgedIdentity-le : (f : SecurityFields) → judgedIdentity f ≤ f .«sender_id_size» .0
+unfolding judgedIdentity
+judgedIdentity-le f = min-cond (eqb (ST f) 1) (f .«sender_id_size» .0)
+
+-- and those stand before the provider info
 pub identity-le-provider : (f : SecurityFields) → 16 + judgedIdentity f ≤ providerAt f
-unfolding judgedIdentity providerAt certAt signatureAt keyAt padded
-identity-le-provider f = omega (arith, min-cond (eqb (ST f) 1) (f .«sender_id_size» .0))
+unfolding providerAt certAt signatureAt keyAt padded
+identity-le-provider f = omega (arith, judgedIdentity-le f)
 
 -- each mask is as long as its header
 pub length-securityMask : (f : SecurityFields) → length (securityMask f) ≡ securityLength f

@@ -1,0 +1,12 @@
+pub mod Again
+pub mod Carried
+pub mod Fields
+pub mod GivenOf
+pub mod Hidden
+pub mod Parts
+pub mod Placed
+pub mod PropertiesShown
+pub mod ReadBack
+pub mod Row
+pub mod SecurityShown
+pub mod Shown

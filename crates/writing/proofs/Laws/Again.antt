@@ -1,0 +1,193 @@
+-- An accepted section written again, whole or with less of it shown: one law for both.
+use Prim.Native.Nat.{ℕ, _%_}
+use mathlib.Core.Path.{_≡_, refl, sym, ap, subst, _∙_}
+use mathlib.Core.Bool.{Bool, true, false, cond}
+use mathlib.Core.List.{List, [], _++_}
+use native.Mathlib.Nat.{zero-add}
+use native.Mathlib.Omega.{arith}
+use borrow.Author.Tests.{le-ltb}
+use lib.ListN.{length}
+use Rattle.octets.specs.Number.{le}
+use Rattle.octets.proofs.Laws.Number.{le-lt}
+use Rattle.rules.specs.Judged.{masked}
+use Rattle.rules.specs.Security.{ST, identityHead, identitySize, securityContents, securityFields, securityLength, securityParts, securitySteps}
+use Rattle.rules.specs.Reading.{fullReading, read, summarize}
+use Rattle.rules.specs.Summary.{labelOf, noSecurity, propertiesAt, sectionOf, summaryOf}
+use Rattle.rules.specs.declared.properties.PropertiesFields.{PropertiesFields}
+use Rattle.rules.specs.declared.refusal.Checked.the-variants.{Passed}
+use Rattle.rules.specs.declared.section.Reading.the-variants.{Accepted as Reading·Accepted}
+use Rattle.rules.specs.declared.section.Section.{Section}
+use Rattle.rules.specs.declared.section.Summarized.{Summarized}
+use Rattle.rules.specs.declared.section.Summarized.the-variants.{Accepted, Refused}
+use Rattle.rules.specs.declared.section.Summary.{Summary}
+use Rattle.rules.specs.declared.security.SecurityFields.{SecurityFields}
+use Rattle.rules.specs.declared.security.SecurityHeader.{SecurityHeader}
+use Rattle.rules.specs.declared.security.SecurityLayout.the-variants.{Fits}
+use Rattle.rules.specs.declared.properties.PropertiesLayout.the-variants.{Fits as Properties·Fits}
+use Rattle.rules.proofs.Laws.Accepted.{HeaderPassed, SectionPassed, SecurityPassed, properties-fits, section-passed, security-fields, security-fits}
+use Rattle.writing.specs.Given.{Given, propertiesGiven, securityGiven}
+use Rattle.writing.specs.Theorems.{Octets, givenOf}
+use Rattle.writing.specs.Writing.{placeSection, propertiesBytes, sectionBytes, securityBytes, tooLarge}
+use Rattle.writing.specs.declared.values.Placed.the-variants.{At}
+use Rattle.writing.proofs.Laws.GivenOf.{givenAgain, properties-of, propertiesGiven-again, security-of, securityGiven-again}
+use Rattle.writing.proofs.Laws.Placed.{HeaderPlaced, SectionPlaced, section-placed, startOf}
+use Rattle.writing.proofs.Laws.Row.{headerBytes, length-headerBytes}
+use Rattle.writing.proofs.Laws.PropertiesShown.{PropertiesOf}
+use Rattle.writing.proofs.Laws.SecurityShown.{SecurityOf}
+use Rattle.writing.proofs.Laws.Shown.{Shown, shown-append}
+
+-- a way to change what was read before it is written: what is tested stays, and each header shows what its mask counts
+pub record Way (k : Given → Given) (securityBits : SecurityFields → List ℕ) (propertiesBits : PropertiesFields → List ℕ)
+    : Type 0 where
+  pub first : (g : Given) → k g .values .«security_first» ≡ g .values .«security_first»
+  pub security : (g : Given) → securityGiven (k g) ≡ securityGiven g
+  pub properties : (g : Given) → propertiesGiven (k g) ≡ propertiesGiven g
+  pub label : (g : Given) → k g .label ≡ g .label
+  pub provider : (g : Given) → k g .providerInfo ≡ g .providerInfo
+  pub identity : (g : Given) → identitySize (ST (securityGiven g)) (securityGiven g .«sender_id_size» .0) ≡ true
+      → identityHead (securityGiven g) (k g .senderId) ≡ identityHead (securityGiven g) (g .senderId)
+  pub securityShown : (g : Given) (s : List ℕ) → Octets s → SecurityOf g s
+      → Shown (securityBits (securityGiven g)) (securityBytes (k g)) s 0
+  pub propertiesShown : (g : Given) (s : List ℕ) (p : ℕ) → Octets s → PropertiesOf g s p
+      → Shown (propertiesBits (propertiesGiven g)) (propertiesBytes (k g)) s p
+
+-- an accepted input has a summary, of which the full reading is made
+accepted : (s : List ℕ) (x : Summarized) (r : Section) → fullReading s x ≡ Reading·Accepted r
+    → (x ≡ Accepted (r .summary)) × (r ≡ sectionOf (r .summary) s)
+unfolding fullReading sectionOf
+accepted s (Accepted m) r e =
+    let section : r ≡ sectionOf m s = cc in
+    let summary = ap (λ (x : Section). x .summary) section in
+    (ap Accepted (sym summary), subst (λ (m : Summary). r ≡ sectionOf m s) (sym summary) section)
+accepted s (Refused x) r e = let z : _≡_ {A = ℕ} 0 1 = cc in absurd (omega arith)
+
+-- the section has passed, first or not as its summary says
+summary-passed : (first : Bool) (s : List ℕ) (m : Summary) → summarize first s ≡ Accepted m
+    → SectionPassed (m .«security_first») s m
+unfolding summaryOf
+summary-passed first s m e =
+    let a = section-passed first s m .0 e in
+    let same : m .«security_first» ≡ first = ap (λ (x : Summary). x .«security_first») (a .properties .summary) in
+    subst (λ (b : Bool). SectionPassed b s m) (sym same) a
+
+module _ {k : Given → Given} {securityBits : SecurityFields → List ℕ} {propertiesBits : PropertiesFields → List ℕ}
+    (w : Way k securityBits propertiesBits) where
+  -- the mask of a section
+  abbrev shownOf : Summary → List ℕ
+  shownOf m = cond (m .«security_first») (securityBits (m .security .fields)) [] ++ propertiesBits (m .properties)
+
+  -- the SecurityHeader read is shown
+  header-shown : (first : Bool) (s : List ℕ) (m : Summary) → Octets s → HeaderPassed first s (m .security)
+      → Shown (cond first (securityBits (m .security .fields)) []) (headerBytes first (k (givenAgain m s))) s 0
+  unfolding masked
+  header-shown true s m b a =
+      subst (λ (f : SecurityFields). Shown (securityBits f) (securityBytes (k (givenAgain m s))) s 0)
+      (securityGiven-again true s m a) (w .securityShown (givenAgain m s) s b (security-of s m a))
+  header-shown false s m b a = record { size = refl; kept = refl }
+
+  -- 28: two sizes were read from two bytes, and S5 passed
+  header-small : (s : List ℕ) (m : Summary) → Octets s → SecurityPassed s (m .security) → tooLarge (k (givenAgain m s)) ≡ false
+  unfolding tooLarge securityGiven securityFields
+  header-small s m b a =
+      let g = k (givenAgain m s) in
+      let f = m .security .fields in
+      let e : securityGiven g ≡ f = w .security (givenAgain m s) ∙ securityGiven-again true s m a in
+      let read = security-fields s (m .security) a in
+      let key : length (g .encryptionKey) ≡ le 2 s 4 = ap (λ (f : SecurityFields). f .«encryption_key_size» .0) (e ∙ read) in
+      let signature : length (g .signature) ≡ le 2 s 6 = ap (λ (f : SecurityFields). f .«signature_size» .0) (e ∙ read) in
+      let cert : length (g .senderCert) ≡ f .«sender_cert_size» .0 = ap (λ (f : SecurityFields). f .«sender_cert_size» .0) e in
+      let fits = security-fits f 0 (m .security .parts) (a .fits) in
+      rw (
+        le-ltb 65535 (length (g .encryptionKey)) (omega (arith, le-lt 2 s 4 b)),
+        le-ltb 65535 (length (g .signature)) (omega (arith, le-lt 2 s 6 b)),
+        le-ltb 65535 (length (g .senderCert)) (omega arith),
+      )
+
+  -- the steps on the SecurityHeader pass again
+  header-placed : (first : Bool) (s : List ℕ) (m : Summary) → Octets s → HeaderPassed first s (m .security)
+      → HeaderPlaced first (k (givenAgain m s))
+  unfolding securityContents givenOf sectionOf
+  header-placed true s m b a =
+      let g = givenAgain m s in
+      let h = m .security in
+      let again = securityGiven-again true s m a in
+      let e : securityGiven (k g) ≡ h .fields = w .security g ∙ again in
+      let fits = security-fits (h .fields) 0 (h .parts) (a .fits) in
+      let identity = subst (λ (f : SecurityFields). identitySize (ST f) (f .«sender_id_size» .0) ≡ true) (sym again)
+      (fits .identity) in
+      let contents = subst (λ (f : SecurityFields). securityContents f (g .senderId) (g .providerInfo) 0 ≡ Passed) (sym again)
+      (a .contents) in
+      record {
+        small = header-small s m b a;
+        fits =
+            subst (λ (f : SecurityFields). securitySteps f 0 ≡ Fits (securityParts f)) (sym e) (a .fits ∙ ap Fits (fits .layout));
+        contents = rw (w .security g, w .identity g identity, w .provider g) contents;
+      }
+  header-placed false s m b a = tt
+
+  -- the MessagePropertiesHeader begins where it was read
+  start-again : (first : Bool) (s : List ℕ) (m : Summary) → HeaderPassed first s (m .security)
+      → startOf first (k (givenAgain m s)) ≡ propertiesAt m
+  unfolding noSecurity
+  start-again true s m a =
+      ap securityLength (w .security (givenAgain m s) ∙ securityGiven-again true s m a)
+      ∙ sym (security-fits (m .security .fields) 0 (m .security .parts) (a .fits) .size)
+  start-again false s m a = ap (λ (h : SecurityHeader). h .parts .length .0) (sym a)
+
+  module _ (s : List ℕ) (m : Summary) (b : Octets s) (a : SectionPassed (m .«security_first») s m) where
+    -- the section's steps pass again
+    again-placed : SectionPlaced (m .«security_first») (k (givenAgain m s)) (m .parts .«section_length» .0)
+    unfolding labelOf givenOf sectionOf
+    again-placed =
+        let first = m .«security_first» in
+        let g = givenAgain m s in
+        let p = propertiesAt m in
+        let e : propertiesGiven (k g) ≡ m .properties = w .properties g ∙ propertiesGiven-again first s m (a .properties) in
+        let start = start-again first s m (a .security) in
+        let fits = properties-fits (m .properties) p (m .parts) (a .properties .fits) in
+        record {
+          security = header-placed first s m b (a .security);
+          even = ap (λ (x : List ℕ). length x % 2) (w .label g) ∙ properties-of first s m (a .properties) .even;
+          fits = rw (start, e) (a .properties .fits ∙ ap Properties·Fits (fits .layout));
+          contents = rw (start, w .label g) (a .properties .contents);
+          size = rw (start, e) (fits .size);
+        }
+
+    -- the section's bytes, as far as the masks show them
+    again-shown : Shown (shownOf m)
+        (headerBytes (m .«security_first») (k (givenAgain m s)) ++ propertiesBytes (k (givenAgain m s))) s 0
+    again-shown =
+        let first = m .«security_first» in
+        let g = givenAgain m s in
+        let shown = w .propertiesShown g s (propertiesAt m) b (properties-of first s m (a .properties)) in
+        let properties : Shown (propertiesBits (m .properties)) (propertiesBytes (k g)) s (propertiesAt m) =
+        subst (λ (f : PropertiesFields). Shown (propertiesBits f) (propertiesBytes (k g)) s (propertiesAt m))
+        (propertiesGiven-again first s m (a .properties)) shown in
+        shown-append (header-shown first s m b (a .security))
+        (zero-add (length (headerBytes first (k g))) ∙ length-headerBytes first (k g) ∙ start-again first s m (a .security))
+        properties
+
+    -- its length, and its bytes
+    again : (placeSection (k (givenAgain m s)) ≡ At (m .parts .«section_length»))
+        × (sectionBytes (k (givenAgain m s)) ≡ masked (shownOf m) s)
+    unfolding givenOf sectionOf sectionBytes
+    again =
+        let g = givenAgain m s in
+        let n = m .parts .«section_length» .0 in
+        let section : Bool → List ℕ = λ first. headerBytes first (k g) ++ propertiesBytes (k g) in (
+          section-placed (k g) n .1 (subst (λ (first : Bool). SectionPlaced first (k g) n) (sym (w .first g)) again-placed),
+          ap section (w .first g) ∙ again-shown .kept,
+        )
+
+  -- what was accepted, written again in this way: it has the section's length, and shows what the masks count
+  pub accepted-again : (first : Bool) (s : List ℕ) (r : Section) → Octets s → read first s ≡ Reading·Accepted r
+      → (placeSection (k (givenOf r s)) ≡ At (r .summary .parts .«section_length»))
+      × (sectionBytes (k (givenOf r s)) ≡ masked (shownOf (r .summary)) s)
+  unfolding read
+  accepted-again first s r b e =
+      let m = r .summary in
+      let a = accepted s (summarize first s) r e in
+      subst
+      (λ (x : Section). (placeSection (k (givenOf x s)) ≡ At (m .parts .«section_length»))
+      × (sectionBytes (k (givenOf x s)) ≡ masked (shownOf m) s))
+      (sym (a .1)) (again s m b (summary-passed first s m (a .0)))

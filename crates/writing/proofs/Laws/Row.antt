@@ -1,0 +1,91 @@
+-- The bytes written as a row of pieces, and how long they are.
+use Prim.Native.Nat.{ℕ, _%_}
+use mathlib.Core.Path.{_≡_, refl, ap, _∙_}
+use mathlib.Core.Bool.{Bool, true, false, cond}
+use mathlib.Core.List.{List, [], _++_, append-assoc}
+use native.Mathlib.Omega.{arith}
+use lib.ListN.{length, replicate, length-append, length-replicate}
+use Rattle.octets.specs.Number.{toLe}
+use Rattle.octets.specs.Padding.{padded, padding}
+use Rattle.octets.proofs.Laws.Number.{length-toLe}
+use Rattle.rules.specs.Properties.{propertiesLength}
+use Rattle.rules.specs.Security.{certAt, keyAt, providerAt, securityLength, signatureAt}
+use Rattle.writing.specs.Given.{Given, propertiesGiven, securityGiven}
+use Rattle.writing.specs.Writing.{paddedPart, propertiesBytes, propertiesFixed, securityBytes, securityFixed}
+use Rattle.writing.proofs.Laws.Placed.{startOf}
+
+-- how long each piece is
+pub length-paddedPart : (xs : List ℕ) → length (paddedPart xs) ≡ padded 4 (length xs)
+unfolding paddedPart padded
+length-paddedPart xs = simp (length-append, length-replicate)
+
+pub length-securityFixed : (g : Given) → length (securityFixed g) ≡ 16
+unfolding securityFixed
+length-securityFixed g = simp (length-append, length-toLe)
+
+pub length-securityBytes : (g : Given) → length (securityBytes g) ≡ securityLength (securityGiven g)
+unfolding securityBytes securityGiven securityLength providerAt certAt signatureAt keyAt
+length-securityBytes g = simp (length-append, length-securityFixed, length-paddedPart) (omega arith)
+
+-- the bytes of the SecurityHeader, where one stands first
+abbrev pub headerBytes : Bool → Given → List ℕ
+headerBytes first g = cond first (securityBytes g) []
+
+pub length-headerBytes : (first : Bool) (g : Given) → length (headerBytes first g) ≡ startOf first g
+length-headerBytes true g = length-securityBytes g
+length-headerBytes false g = refl
+
+-- a SecurityHeader, and what follows it
+pub security-row : (g : Given) (rest : List ℕ)
+    → securityBytes g ++ rest
+    ≡ securityFixed g
+    ++ (paddedPart (g .senderId)
+    ++ (paddedPart (g .encryptionKey)
+    ++ (paddedPart (g .signature) ++ (paddedPart (g .senderCert) ++ (paddedPart (g .providerInfo) ++ rest)))))
+unfolding securityBytes
+security-row g rest = simp append-assoc
+
+-- the fixed bytes of a MessagePropertiesHeader before its CorrelationID, and those behind it
+unfoldable pub fixedBefore : Given → List ℕ
+fixedBefore g =
+    toLe 1 (g .values .flags % 16) ++ (toLe 1 (propertiesGiven g .«label_length» .0) ++ toLe 2 (g .values .«message_class»))
+
+unfoldable pub fixedBehind : Given → List ℕ
+fixedBehind g =
+    toLe 4 (g .values .«body_type»)
+    ++ (toLe 4 (g .values .«application_tag»)
+    ++ (toLe 4 (length (g .body))
+    ++ (toLe 4 (g .values .«allocation_body_size» .0)
+    ++ (toLe 4 (g .values .«privacy_level»)
+    ++ (toLe 4 (g .values .«hash_algorithm») ++ (toLe 4 (g .values .«encryption_algorithm») ++ toLe 4 (length (g .extension))))))))
+
+pub length-fixedBefore : (g : Given) → length (fixedBefore g) ≡ 4
+unfolding fixedBefore
+length-fixedBefore g = simp (length-append, length-toLe)
+
+pub length-fixedBehind : (g : Given) → length (fixedBehind g) ≡ 32
+unfolding fixedBehind
+length-fixedBehind g = simp (length-append, length-toLe)
+
+-- the padding behind its parts
+unfoldable pub lastPadding : Given → List ℕ
+lastPadding g = replicate (padding 4 (length (propertiesFixed g ++ (g .label ++ (g .extension ++ g .body))))) 0
+
+-- a MessagePropertiesHeader, and what follows it
+pub properties-row : (g : Given) (rest : List ℕ)
+    → propertiesBytes g ++ rest
+    ≡ fixedBefore g
+    ++ (g .correlationId ++ (fixedBehind g ++ (g .label ++ (g .extension ++ (g .body ++ (lastPadding g ++ rest))))))
+unfolding propertiesBytes propertiesFixed paddedPart fixedBefore fixedBehind lastPadding
+properties-row g rest = simp append-assoc
+
+pub length-propertiesFixed : (g : Given) → length (g .correlationId) ≡ 20 → length (propertiesFixed g) ≡ 56
+unfolding propertiesFixed
+length-propertiesFixed g c = simp (length-append, length-toLe) (omega arith)
+
+pub length-propertiesBytes : (g : Given) → length (g .correlationId) ≡ 20 → length (g .label) % 2 ≡ 0
+    → length (propertiesBytes g) ≡ propertiesLength (propertiesGiven g)
+unfolding propertiesBytes propertiesGiven propertiesLength
+length-propertiesBytes g c even =
+    length-paddedPart (propertiesFixed g ++ (g .label ++ (g .extension ++ g .body)))
+    ∙ ap (padded 4) (simp (length-append, length-propertiesFixed g c) (omega arith))

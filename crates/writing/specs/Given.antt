@@ -1,0 +1,48 @@
+-- 01, "Writing": "the full reading's values and parts, with the sizes given by the parts"
+use Prim.Native.Nat.{ℕ, _/_, _%_}
+use mathlib.Core.List.{List}
+use lib.ListN.{length}
+use Rattle.rules.specs.Refusal.{bytes}
+use Rattle.rules.specs.declared.properties.PropertiesFields.{PropertiesFields}
+use Rattle.rules.specs.declared.security.SecurityFields.{SecurityFields}
+use Rattle.writing.specs.declared.values.SectionValues.{SectionValues}
+
+pub record Given : Type 0 where
+  pub values : SectionValues
+  pub correlationId : List ℕ
+  pub senderId : List ℕ
+  pub encryptionKey : List ℕ
+  pub signature : List ℕ
+  pub senderCert : List ℕ
+  pub providerInfo : List ℕ
+  pub label : List ℕ
+  pub extension : List ℕ
+  pub body : List ℕ
+
+-- the fields of the SecurityHeader that would be written; "X bits .. are written zero"
+unfoldable pub securityGiven : Given → SecurityFields
+securityGiven g =
+    record {
+      flags = g .values .«security_flags» % 4096;
+      «sender_id_size» = bytes (length (g .senderId));
+      «encryption_key_size» = bytes (length (g .encryptionKey));
+      «signature_size» = bytes (length (g .signature));
+      «sender_cert_size» = bytes (length (g .senderCert));
+      «provider_info_size» = bytes (length (g .providerInfo));
+    }
+
+-- the fields of the MessagePropertiesHeader that would be written; LabelLength counts 16-bit units
+unfoldable pub propertiesGiven : Given → PropertiesFields
+propertiesGiven g =
+    record {
+      flags = g .values .flags % 16;
+      «label_length» = record { 0 = length (g .label) / 2 };
+      «message_class» = g .values .«message_class»;
+      «body_type» = g .values .«body_type»;
+      «message_size» = bytes (length (g .body));
+      «allocation_body_size» = g .values .«allocation_body_size»;
+      «privacy_level» = g .values .«privacy_level»;
+      «hash_algorithm» = g .values .«hash_algorithm»;
+      «encryption_algorithm» = g .values .«encryption_algorithm»;
+      «extension_size» = bytes (length (g .extension));
+    }

@@ -1,0 +1,144 @@
+-- What the section writer and the reader say of each other.
+use Prim.Native.Nat.{ℕ, _+_, _-_, _<_}
+use mathlib.Core.Path.{_≡_}
+use mathlib.Core.Bool.{Bool, true, cond}
+use mathlib.Core.List.{List, [], _++_}
+use lib.ListN.{length, getD, take, replicate}
+use Rattle.octets.specs.Padding.{padding}
+use Rattle.rules.specs.Judged.{copyOf, judgedIdentity, masked}
+use Rattle.rules.specs.Properties.{labelBytes}
+use Rattle.rules.specs.Reading.{read}
+use Rattle.rules.specs.Refusal.{bytes}
+use Rattle.rules.specs.Summary.{partOf}
+use Rattle.rules.specs.declared.properties.PropertiesFields.{PropertiesFields}
+use Rattle.rules.specs.declared.section.Reading.the-variants.{Accepted}
+use Rattle.rules.specs.declared.section.Section.{Section}
+use Rattle.rules.specs.declared.section.Summary.{Summary}
+use Rattle.rules.specs.declared.security.SecurityFields.{SecurityFields}
+use Rattle.writing.specs.Given.{Given, propertiesGiven, securityGiven}
+use Rattle.writing.specs.Writing.{placeSection, sectionBytes}
+use Rattle.writing.specs.declared.values.Placed.the-variants.{At}
+
+abbrev pub Octets : List ℕ → Type 0
+Octets s = (i : ℕ) → getD s i 0 < 256
+
+-- the values fit their fields, as their types in the code have it
+pub record WellFormed (g : Given) : Type 0 where
+  pub correlation : length (g .correlationId) ≡ 20
+  pub class : g .values .«message_class» < 65536
+  pub «body_type» : g .values .«body_type» < 4294967296
+  pub tag : g .values .«application_tag» < 4294967296
+  pub privacy : g .values .«privacy_level» < 4294967296
+  pub hash : g .values .«hash_algorithm» < 4294967296
+  pub encryption : g .values .«encryption_algorithm» < 4294967296
+
+-- "what is written reads back as the values and parts given": whatever follows the section
+pub record ReadsBack (g : Given) (s : List ℕ) (r : Section) : Type 0 where
+  pub reads : read (g .values .«security_first») s ≡ Accepted r
+  pub security : g .values .«security_first» ≡ true → r .summary .security .fields ≡ securityGiven g
+  pub properties : r .summary .properties ≡ propertiesGiven g
+  pub tag : r .«application_tag» ≡ g .values .«application_tag»
+  pub correlation : partOf s (r .«correlation_id») ≡ g .correlationId
+  pub senderId : g .values .«security_first» ≡ true → partOf s (r .summary .security .parts .«sender_id») ≡ g .senderId
+  pub encryptionKey : g .values .«security_first» ≡ true → partOf s (r .summary .security .parts .«encryption_key») ≡ g .encryptionKey
+  pub signature : g .values .«security_first» ≡ true → partOf s (r .summary .security .parts .signature) ≡ g .signature
+  pub senderCert : g .values .«security_first» ≡ true → partOf s (r .summary .security .parts .«sender_cert») ≡ g .senderCert
+  pub providerInfo : g .values .«security_first» ≡ true → partOf s (r .summary .security .parts .«provider_info») ≡ g .providerInfo
+  pub label : partOf s (r .summary .parts .label) ≡ g .label
+  pub extension : partOf s (r .summary .parts .extension) ≡ g .extension
+  pub body : partOf s (r .summary .parts .body) ≡ g .body
+
+-- the values and parts of what was read
+unfoldable pub givenOf : Section → List ℕ → Given
+givenOf r s =
+    let m = r .summary in
+    record {
+      values =
+          record {
+            «security_first» = m .«security_first»;
+            «security_flags» = m .security .fields .flags;
+            flags = m .properties .flags;
+            «message_class» = m .properties .«message_class»;
+            «body_type» = m .properties .«body_type»;
+            «application_tag» = r .«application_tag»;
+            «allocation_body_size» = m .properties .«allocation_body_size»;
+            «privacy_level» = m .properties .«privacy_level»;
+            «hash_algorithm» = m .properties .«hash_algorithm»;
+            «encryption_algorithm» = m .properties .«encryption_algorithm»;
+          };
+      correlationId = partOf s (r .«correlation_id»);
+      senderId = partOf s (m .security .parts .«sender_id»);
+      encryptionKey = partOf s (m .security .parts .«encryption_key»);
+      signature = partOf s (m .security .parts .signature);
+      senderCert = partOf s (m .security .parts .«sender_cert»);
+      providerInfo = partOf s (m .security .parts .«provider_info»);
+      label = partOf s (m .parts .label);
+      extension = partOf s (m .parts .extension);
+      body = partOf s (m .parts .body);
+    }
+
+-- of each byte how many of its lowest bits are carried: all but X bits and padding
+unfoldable pub carriedPart : ℕ → List ℕ
+carriedPart n = replicate n 8 ++ replicate (padding 4 n) 0
+
+unfoldable pub securityCarried : SecurityFields → List ℕ
+securityCarried f =
+    replicate 1 8
+    ++ (replicate 1 4  -- X12 to X15
+    ++ (replicate 14 8
+    ++ (carriedPart (f .«sender_id_size» .0)
+    ++ (carriedPart (f .«encryption_key_size» .0)
+    ++ (carriedPart (f .«signature_size» .0) ++ (carriedPart (f .«sender_cert_size» .0) ++ carriedPart (f .«provider_info_size» .0)))))))
+
+unfoldable pub propertiesCarried : PropertiesFields → List ℕ
+propertiesCarried f =
+    let size = 56 + labelBytes f + f .«extension_size» .0 + f .«message_size» .0 in
+    replicate 1 4  -- the four X bits
+    ++ (replicate (size - 1) 8 ++ replicate (padding 4 size) 0)
+
+unfoldable pub carried : Summary → List ℕ
+carried m = cond (m .«security_first») (securityCarried (m .security .fields)) [] ++ propertiesCarried (m .properties)
+
+-- the values and parts with every private bit zero
+unfoldable pub hidden : Given → Given
+hidden g =
+    record {
+      values =
+          record {
+            «security_first» = g .values .«security_first»;
+            «security_flags» = g .values .«security_flags»;
+            flags = g .values .flags;
+            «message_class» = g .values .«message_class»;
+            «body_type» = g .values .«body_type»;
+            «application_tag» = 0;
+            «allocation_body_size» = g .values .«allocation_body_size»;
+            «privacy_level» = g .values .«privacy_level»;
+            «hash_algorithm» = g .values .«hash_algorithm»;
+            «encryption_algorithm» = g .values .«encryption_algorithm»;
+          };
+      correlationId = replicate 20 0;
+      senderId =
+          take (judgedIdentity (securityGiven g)) (g .senderId)
+          ++ replicate (length (g .senderId) - judgedIdentity (securityGiven g)) 0;
+      encryptionKey = replicate (length (g .encryptionKey)) 0;
+      signature = replicate (length (g .signature)) 0;
+      senderCert = replicate (length (g .senderCert)) 0;
+      providerInfo = g .providerInfo;
+      label = g .label;
+      extension = replicate (length (g .extension)) 0;
+      body = replicate (length (g .body)) 0;
+    }
+
+pub record Writing : Type 0 where
+  -- the length is the layout's
+  pub length : (g : Given) (n : ℕ) → WellFormed g → placeSection g ≡ At (bytes n) → length (sectionBytes g) ≡ n
+  pub readBack : (g : Given) (n : ℕ) (rest : List ℕ) → WellFormed g → placeSection g ≡ At (bytes n)
+      → (r : Section) × ReadsBack g (sectionBytes g ++ rest) r
+  -- "writing what was read from an accepted section gives that section again with X bits and padding zero"
+  pub writtenAgain : (first : Bool) (s : List ℕ) (r : Section) → Octets s → read first s ≡ Accepted r
+      → (placeSection (givenOf r s) ≡ At (r .summary .parts .«section_length»))
+      × (sectionBytes (givenOf r s) ≡ masked (carried (r .summary)) s)
+  -- the support copy is what the writer makes of the reading with every private bit zero
+  pub supportCopy : (first : Bool) (s : List ℕ) (r : Section) → Octets s → read first s ≡ Accepted r
+      → (placeSection (hidden (givenOf r s)) ≡ At (r .summary .parts .«section_length»))
+      × (sectionBytes (hidden (givenOf r s)) ≡ copyOf (r .summary) s)

@@ -1,0 +1,2 @@
+// Writing a section, part by part, into a lent output.
+pub mod values;

@@ -1,0 +1,194 @@
+//! The paper's examples 1 to 9, with content that passes S10, S11 and P7.
+
+use independent::{label_shown, number, read, same_summary, support_copy, Part, Refusal, LIMIT};
+
+/// A MessagePropertiesHeader with these numbers and no parts.
+fn properties(label: u8, class: u16, extension: u32, body: u32, allocation: u32) -> Vec<u8> {
+    let mut bytes = vec![0; 56];
+    bytes[1] = label;
+    bytes[2..4].copy_from_slice(&class.to_le_bytes());
+    bytes[32..36].copy_from_slice(&body.to_le_bytes());
+    bytes[36..40].copy_from_slice(&allocation.to_le_bytes());
+    bytes[52..56].copy_from_slice(&extension.to_le_bytes());
+    bytes
+}
+
+/// `units - 1` letters and a null.
+fn label(units: usize) -> Vec<u8> {
+    let mut bytes = [b'a', 0].repeat(units - 1);
+    bytes.extend_from_slice(&[0, 0]);
+    bytes
+}
+
+/// The fixed part of a SecurityHeader.
+fn security(flags: u16, sizes: [u16; 3], certificate: u32, provider: u32) -> Vec<u8> {
+    let mut bytes = flags.to_le_bytes().to_vec();
+    for size in sizes {
+        bytes.extend_from_slice(&size.to_le_bytes());
+    }
+    bytes.extend_from_slice(&certificate.to_le_bytes());
+    bytes.extend_from_slice(&provider.to_le_bytes());
+    bytes
+}
+
+fn refused(number: u32, place: usize) -> Refusal {
+    Refusal { number, place }
+}
+
+fn part(start: usize, end: usize) -> Part {
+    Part { start, length: end - start }
+}
+
+#[test]
+fn example_1_zero_bytes() {
+    let zero = [0; 56];
+    let section = read(&zero, false).unwrap();
+    assert_eq!(section.summary.length, 56);
+    assert!(section.summary.security.is_none());
+    assert!(!section.summary.authentication_fails);
+    assert!(!section.summary.decryption_fails);
+    assert_eq!(read(&zero[..55], false).unwrap_err(), refused(number::INPUT_SHORT, 0));
+}
+
+#[test]
+fn example_2_parts_follow_each_other() {
+    let mut bytes = properties(3, 0, 5, 2, 2);
+    bytes.extend_from_slice(&label(3));
+    bytes.extend_from_slice(b"extenbo???");
+    let summary = read(&bytes, false).unwrap().summary;
+    assert_eq!(summary.parts.label, part(56, 62));
+    assert_eq!(summary.parts.extension, part(62, 67));
+    assert_eq!(summary.parts.body, part(67, 69));
+    assert_eq!(summary.length, 72);
+    for cut in 69..72 {
+        assert_eq!(read(&bytes[..cut], false).unwrap_err(), refused(number::INPUT_SHORT, 0));
+    }
+}
+
+#[test]
+fn example_3_longest_label() {
+    let mut bytes = properties(250, 0, 0, 0, 0);
+    bytes.extend_from_slice(&label(250));
+    assert_eq!(read(&bytes, false).unwrap().summary.length, 556);
+    for class in [0, 0x8008] {
+        let bytes = properties(251, class, 0, 0, 0);
+        assert_eq!(read(&bytes, false).unwrap_err(), refused(number::LABEL_LENGTH, 0));
+    }
+}
+
+#[test]
+fn example_4_label_of_one_unit() {
+    let mut bytes = properties(1, 0, 0, 0, 0);
+    bytes.extend_from_slice(&[0; 4]);
+    assert_eq!(read(&bytes, false).unwrap().summary.length, 60);
+    assert_eq!(label_shown(&bytes, false, b"none"), [0, 0]);
+    bytes[57] = 1;
+    assert_eq!(read(&bytes, false).unwrap_err(), refused(number::LABEL, 0));
+    assert_eq!(label_shown(&bytes, false, b"none"), b"none");
+}
+
+#[test]
+fn example_5_classes() {
+    let answer = |class| read(&properties(0, class, 0, 0, 0), false).map(|s| s.summary.properties.class);
+    assert_eq!(answer(0x8008), Err(refused(number::CLASS, 0)));
+    assert_eq!(answer(0x8009), Ok(0x8009));
+    let listed: Vec<u16> = (0..=u16::MAX).filter(|&class| answer(class).is_ok()).collect();
+    assert_eq!(listed, independent::generate::CLASSES);
+}
+
+#[test]
+fn example_6_at_the_limit() {
+    let mut bytes = properties(0, 0, 0, 4_194_248, 4_194_248);
+    assert_eq!(read(&bytes, false).unwrap_err(), refused(number::INPUT_SHORT, 0));
+    bytes.resize(LIMIT as usize, 0xAA);
+    assert_eq!(read(&bytes, false).unwrap().summary.length, LIMIT as usize);
+    let bytes = properties(0, 0, 0, 4_194_249, 4_194_249);
+    assert_eq!(read(&bytes, false).unwrap_err(), refused(number::LIMIT, 0));
+}
+
+#[test]
+fn example_7_key_and_certificate() {
+    let mut bytes = security(0x0080, [0, 1, 0], 2, 0);
+    bytes.extend_from_slice(b"k???ce??");
+    let fixed = bytes.len();
+    bytes.extend_from_slice(&[0; 56]);
+    let section = read(&bytes, true).unwrap();
+    assert_eq!(section.summary.parts.key, part(16, 17));
+    assert_eq!(section.summary.parts.certificate, part(20, 22));
+    assert_eq!(section.summary.parts.label, part(80, 80));
+    assert_eq!((section.key, section.certificate), (&b"k"[..], &b"ce"[..]));
+    assert_eq!(fixed, 24);
+    assert_eq!(read(&bytes[..23], true).unwrap_err(), refused(number::INPUT_SHORT, 0));
+    assert_eq!(read(&bytes[..24], true).unwrap_err(), refused(number::INPUT_SHORT, 24));
+}
+
+#[test]
+fn example_8_identity_and_signature() {
+    let mut bytes = security(0x00C2, [16, 0, 5], 0, 0);
+    bytes.extend_from_slice(&[7; 16]);
+    bytes.extend_from_slice(b"signe???");
+    bytes.extend_from_slice(&[0; 56]);
+    let section = read(&bytes, true).unwrap();
+    assert_eq!(section.summary.parts.signature, part(32, 37));
+    assert_eq!(section.summary.parts.label.start, 40 + 56);
+    assert!(section.summary.authentication_fails, "signed, with hash 0");
+    bytes[0] = 0x42;
+    assert_eq!(read(&bytes, true).unwrap_err(), refused(number::EMPTY, 0));
+}
+
+#[test]
+fn example_9_provider_info() {
+    let mut bytes = security(0x0080, [0, 0, 4], 0, 8);
+    bytes.extend_from_slice(b"sign\x01\0\0\0x\0\0\0");
+    bytes.extend_from_slice(&[0; 56]);
+    let section = read(&bytes, true).unwrap();
+    let security = section.summary.security.unwrap();
+    assert_eq!(section.summary.parts.provider, part(20, 28));
+    assert_eq!(security.provider_type, Some(1));
+    assert_eq!(security.provider_name, b"x\0\0\0");
+    bytes[24] = 0;
+    assert_eq!(read(&bytes, true).unwrap_err(), refused(number::PROVIDER, 0));
+    bytes[12] = 6;
+    assert_eq!(read(&bytes, true).unwrap_err(), refused(number::PROVIDER, 0));
+}
+
+#[test]
+fn allocation_is_not_the_body() {
+    let bytes = properties(0, 0, 0, 0, 4);
+    let summary = read(&bytes, false).unwrap().summary;
+    assert_eq!((summary.length, summary.parts.body), (56, part(56, 56)));
+    assert_eq!(read(&properties(0, 0, 0, 4, 3), false).unwrap_err(), refused(number::ALLOCATION, 0));
+}
+
+#[test]
+fn support_copy_keeps_only_judged_bits() {
+    let mut bytes = security(0xF0A1, [12, 3, 0], 0, 0);
+    bytes.extend_from_slice(&[1, 1, 2, 3, 4, 5, 6, 7, 8, 9, 10, 11]);
+    bytes.extend_from_slice(b"key?");
+    let mut header = vec![0xFF; 56];
+    header[1] = 2;
+    header[2..4].copy_from_slice(&[2, 0]);
+    header[32..36].copy_from_slice(&[1, 0, 0, 0]);
+    header[36..40].copy_from_slice(&[9, 0, 0, 0]);
+    header[52..56].copy_from_slice(&[2, 0, 0, 0]);
+    bytes.extend_from_slice(&header);
+    bytes.extend_from_slice(b"a\0\0\0exB?trailing");
+
+    let length = 32 + 56 + 8;
+    let mut out = vec![0x55; length + 3];
+    assert_eq!(support_copy(&bytes, true, &mut out), Ok(length));
+    let mut expected = bytes[..length].to_vec();
+    expected[1] = 0;
+    expected[18..32].fill(0);
+    expected[32] = 0x0F;
+    expected[36..56].fill(0);
+    expected[60..64].fill(0);
+    expected[92..].fill(0);
+    assert_eq!(out[..length], expected);
+    assert_eq!(out[length..], [0x55; 3]);
+    assert!(same_summary(&bytes, &out, true));
+
+    let mut short = vec![0x55; length - 1];
+    assert_eq!(support_copy(&bytes, true, &mut short), Err(refused(number::OUTPUT_SHORT, 0)));
+    assert!(short.iter().all(|&b| b == 0x55));
+}

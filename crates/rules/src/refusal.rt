@@ -39,3 +39,13 @@ pub const ALLOCATION: u32 = 11;
 pub const LABEL: u32 = 12;
 
 pub const OUTPUT_SHORT: u32 = 13;
+
+pub const PART_TOO_LARGE: u32 = 28;
+
+pub const QUEUE_TYPE: u32 = 30;
+
+pub const QUEUE_SUFFIX: u32 = 31;
+
+pub const QUEUE_VALUE: u32 = 32;
+
+pub const QUEUE_STRING: u32 = 33;

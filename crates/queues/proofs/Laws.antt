@@ -1,0 +1,4 @@
+pub mod RoundTrip
+pub mod Steps
+pub mod Value
+pub mod Write

@@ -1,0 +1,105 @@
+-- What the writer's steps promise, and an image laid over an output.
+use Prim.Native.Nat.{ℕ, _+_, _≤_, _<_}
+use mathlib.Core.Path.{_≡_, refl, sym, ap, _∙_}
+use mathlib.Core.Bool.{Bool, true, false}
+use mathlib.Core.List.{List, [], _∷_, _++_, append-assoc}
+use native.Mathlib.Omega.{arith}
+use borrow.Author.Tests.{lt-ltb, le-ltb, ltb-false, ltb-true, eqb-true}
+use lib.ListN.{length, take, drop, set, length-append, length-drop}
+use lib.Seq.{drop-drop, take-length, paste, take-paste, drop-paste}
+use lib.Dec.{eqb, ltb}
+use Rattle.rules.specs.Listed.{listed}
+use Rattle.rules.specs.declared.refusal.Refusal.{Refusal}
+use Rattle.rules.specs.declared.refusal.Checked.{Checked}
+use Rattle.rules.specs.declared.refusal.Checked.the-variants.{Passed, Refused}
+use Rattle.queues.specs.Steps.{andThen, fixedSize, formatSteps, stringStep, textSteps, valueSteps}
+use Rattle.queues.specs.Write.{imageBytes, over, writeSteps}
+use Rattle.queues.specs.declared.format.QueueFormat.{QueueFormat}
+use Rattle.queues.proofs.Laws.Steps.{fixedSize-le, many-units, value-split}
+
+pub never : (r : Refusal) → Refused r ≡ Passed → ⊥
+never r e = let z : _≡_ {A = ℕ} 0 1 = cc in omega arith
+
+-- a text that passes is short
+passed-text : (t : ℕ) (text : List ℕ) → textSteps t text ≡ Passed → length text ≤ 2048
+unfolding textSteps stringStep
+passed-text t text p = go (ltb 2048 (length text)) refl
+  where
+    long : 2048 < length text → (a b : Bool) → listed (3 ∷ 8 ∷ []) t ≡ a → eqb t 6 ≡ b → ⊥
+    long h true b e f = never _ (rw (e, many-units 2 text h) at p)
+    long h false true e f = never _ (rw (e, f, le-ltb (length text) 2 (omega arith), many-units 1 text h) at p)
+    long h false false e f = never _ (rw (e, f, lt-ltb 0 (length text) (omega arith)) at p)
+
+    go : (b : Bool) → ltb 2048 (length text) ≡ b → length text ≤ 2048
+    go true e = absurd (long (ltb-true 2048 (length text) e) (listed (3 ∷ 8 ∷ []) t) (eqb t 6) refl refl)
+    go false e = ltb-false 2048 (length text) e
+
+-- What holds where the writer's steps pass.
+pub record Passing (f : QueueFormat) (fixed text : List ℕ) : Type 0 where
+  pub format : formatSteps f ≡ Passed
+  pub size : length fixed ≡ fixedSize (f .kind)
+  pub value : valueSteps (f .kind) (fixed ++ text) ≡ Passed
+  pub short : length fixed ≤ 20
+  pub text-short : length text ≤ 2048
+
+pub passing : (f : QueueFormat) (fixed text : List ℕ) → writeSteps f fixed text ≡ Passed → Passing f fixed text
+unfolding writeSteps andThen
+passing f fixed text p = go (formatSteps f) (eqb (length fixed) (fixedSize (f .kind))) refl refl
+  where
+    go : (a : Checked) (b : Bool) → formatSteps f ≡ a → eqb (length fixed) (fixedSize (f .kind)) ≡ b → Passing f fixed text
+    go (Refused r) b e g = absurd (never r (rw e at p))
+    go Passed false e g = absurd (never _ (rw (e, g) at p))
+    go Passed true e g =
+        let n : length fixed ≡ fixedSize (f .kind) = eqb-true (length fixed) (fixedSize (f .kind)) g in
+        let v : valueSteps (f .kind) (fixed ++ text) ≡ Passed = rw (e, g) at p in
+        record {
+          format = e;
+          size = n;
+          value = v;
+          short = omega (arith, fixedSize-le (f .kind));
+          text-short = passed-text (f .kind) text (sym (value-split (f .kind) fixed text n) ∙ v);
+        }
+
+-- a copy behind a copy: both are there
+paste-paste : (d s t : List ℕ) (at : ℕ) → at + length s + length t ≤ length d
+    → paste (paste d at s (length s)) (at + length s) t (length t) ≡ take at d ++ (s ++ t) ++ drop (at + length (s ++ t)) d
+paste-paste d s t at h =
+    let n = length s in
+    let m = length t in
+    let first : List ℕ = paste d at s n in
+    let end : at + n + m ≡ at + length (s ++ t) = omega (arith, length-append s t) in
+    let rest : drop (at + n + m) first ≡ drop (at + length (s ++ t)) d =
+    sym (drop-drop m (at + n) first)
+    ∙ ap (drop m) (drop-paste d at s n (omega arith) (omega arith))
+    ∙ drop-drop m (at + n) d
+    ∙ ap (λ (k : ℕ). drop k d) end in
+    ap (λ (l : List ℕ). l ++ take m t ++ drop (at + n + m) first) (take-paste d at s n (omega arith) (omega arith))
+    ∙ ap (λ (l : List ℕ). take at d ++ take n s ++ take m t ++ l) rest
+    ∙ simp (take-length, append-assoc)
+
+-- the stores of the first four bytes
+pub head-over : (f : QueueFormat) (out : List ℕ) → 4 ≤ length out
+    → set (set (set (set out 0 (f .kind)) 1 (f .«suffix_and_flags»)) 2 0) 3 0 ≡ over (imageBytes f []) out
+unfolding over imageBytes
+head-over f [] h = absurd (omega arith)
+head-over f (a ∷ []) h = absurd (omega arith)
+head-over f (a ∷ b ∷ []) h = absurd (omega arith)
+head-over f (a ∷ b ∷ c ∷ []) h = absurd (omega arith)
+head-over f (a ∷ b ∷ c ∷ d ∷ rest) h = refl
+
+pub length-image : (f : QueueFormat) (fixed text : List ℕ) → length (imageBytes f (fixed ++ text)) ≡ 4 + length fixed + length text
+unfolding imageBytes
+length-image f fixed text = omega (arith, length-append fixed text)
+
+-- a copy behind them, and one behind that
+pub image-over : (f : QueueFormat) (fixed text out : List ℕ) → 4 + length fixed + length text ≤ length out
+    → paste (paste (over (imageBytes f []) out) 4 fixed (length fixed)) (4 + length fixed) text (length text)
+    ≡ over (imageBytes f (fixed ++ text)) out
+unfolding over imageBytes
+image-over f fixed text out h =
+    let v = fixed ++ text in
+    let head : List ℕ = f .kind ∷ f .«suffix_and_flags» ∷ 0 ∷ 0 ∷ drop 4 out in
+    let four : 4 + length v ≡ length (imageBytes f v) = omega arith in
+    paste-paste head fixed text 4 (omega (arith, length-drop 4 out))
+    ∙ ap (λ (r : List ℕ). f .kind ∷ f .«suffix_and_flags» ∷ 0 ∷ 0 ∷ (v ++ r))
+    (sym (drop-drop (length v) 4 head) ∙ drop-drop (length v) 4 out ∙ ap (λ (k : ℕ). drop k out) four)

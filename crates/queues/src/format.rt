@@ -1,0 +1,157 @@
+// The queue format type: 004's m_qft and m_SuffixAndFlags, and the numbers that belong to them.
+ghost use mathlib.Core.Path.{_≡_};
+ghost use Rattle.queues.specs.Format.{flags, pairPasses, queueFormat, suffix};
+
+pub struct QueueFormat {
+    pub kind: u8,
+    pub suffix_and_flags: u8,
+}
+
+impl QueueFormat {
+    pub const TYPE_UNKNOWN: u8 = 0x00;
+
+    pub const TYPE_PUBLIC: u8 = 0x01;
+
+    pub const TYPE_PRIVATE: u8 = 0x02;
+
+    pub const TYPE_DIRECT: u8 = 0x03;
+
+    pub const TYPE_MACHINE: u8 = 0x04;
+
+    pub const TYPE_CONNECTOR: u8 = 0x05;
+
+    pub const TYPE_DL: u8 = 0x06;
+
+    pub const TYPE_MULTICAST: u8 = 0x07;
+
+    pub const TYPE_SUBQUEUE: u8 = 0x08;
+
+    pub const SUFFIX_TYPE_NONE: u8 = 0x00;
+
+    pub const SUFFIX_TYPE_JOURNAL: u8 = 0x01;
+
+    pub const SUFFIX_TYPE_DEADLETTER: u8 = 0x02;
+
+    pub const SUFFIX_TYPE_DEADXACT: u8 = 0x03;
+
+    pub const SUFFIX_TYPE_XACTONLY: u8 = 0x04;
+
+    pub const SUFFIX_TYPE_SUBQUEUE: u8 = 0x05;
+
+    pub const FLAG_NOT_SYSTEM: u8 = 0x00;
+
+    pub const FLAG_SYSTEM: u8 = 0x80;
+
+    pub fn new(kind: u8, suffix_and_flags: u8) -> Self
+        ensures { λ r. ⌜ r ≡ queueFormat kind «suffix_and_flags» ⌝ }
+    {
+        Self {
+            kind,
+            suffix_and_flags,
+        }
+    }
+
+    // The suffix type: the low nibble.
+    pub fn suffix(self) -> u8
+        ensures { λ r. ⌜ r ≡ suffix self ⌝ }
+    {
+        let byte = self.suffix_and_flags;
+        byte % 16
+    }
+
+    // The flags: the high nibble, in its place.
+    pub fn flags(self) -> u8
+        ensures { λ r. ⌜ r ≡ flags self ⌝ }
+    {
+        let byte = self.suffix_and_flags;
+        byte / 16 * 16
+    }
+
+    // Whether the suffix goes with the flags and the type.
+    pub fn pair_passes(self) -> bool
+        ensures { λ r. ⌜ r ≡ pairPasses self ⌝ }
+    {
+        let kind = self.kind;
+        let suffix = self.suffix();
+        let flags = self.flags();
+        if suffix == Self::SUFFIX_TYPE_NONE {
+            if flags != Self::FLAG_NOT_SYSTEM {
+                return false;
+            }
+            if kind == Self::TYPE_MACHINE {
+                return false;
+            }
+            return true;
+        }
+        if suffix == Self::SUFFIX_TYPE_JOURNAL {
+            if flags != Self::FLAG_SYSTEM {
+                return false;
+            }
+            if kind == Self::TYPE_CONNECTOR {
+                return false;
+            }
+            if kind == Self::TYPE_DL {
+                return false;
+            }
+            if kind == Self::TYPE_MULTICAST {
+                return false;
+            }
+            return true;
+        }
+        if suffix == Self::SUFFIX_TYPE_DEADLETTER {
+            if flags != Self::FLAG_SYSTEM {
+                return false;
+            }
+            if kind == Self::TYPE_PUBLIC {
+                return false;
+            }
+            if kind == Self::TYPE_PRIVATE {
+                return false;
+            }
+            if kind == Self::TYPE_CONNECTOR {
+                return false;
+            }
+            if kind == Self::TYPE_DL {
+                return false;
+            }
+            if kind == Self::TYPE_MULTICAST {
+                return false;
+            }
+            return true;
+        }
+        if suffix == Self::SUFFIX_TYPE_DEADXACT {
+            if flags != Self::FLAG_SYSTEM {
+                return false;
+            }
+            if kind == Self::TYPE_DIRECT {
+                return true;
+            }
+            if kind == Self::TYPE_MACHINE {
+                return true;
+            }
+            return false;
+        }
+        if suffix == Self::SUFFIX_TYPE_XACTONLY {
+            if kind != Self::TYPE_CONNECTOR {
+                return false;
+            }
+            if flags == Self::FLAG_NOT_SYSTEM {
+                return true;
+            }
+            if flags == Self::FLAG_SYSTEM {
+                return true;
+            }
+            return false;
+        }
+        if suffix == Self::SUFFIX_TYPE_SUBQUEUE {
+            if flags != Self::FLAG_NOT_SYSTEM {
+                return false;
+            }
+            if kind == Self::TYPE_SUBQUEUE {
+                return true;
+            }
+            return false;
+        }
+        false
+    }
+}

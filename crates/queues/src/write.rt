@@ -1,0 +1,81 @@
+// Writing an image.
+use crate::format::QueueFormat;
+use crate::steps::fixed_size;
+use crate::steps::format_steps;
+use crate::steps::refusal_of;
+use crate::steps::text_steps;
+use octets::count::Bytes;
+use rules::refusal;
+use rules::refusal::Checked;
+use rules::section::Output;
+ghost use mathlib.Core.Path.{_≡_};
+ghost use mathlib.Core.List.{[], _++_};
+ghost use Prim.Native.Nat.{_+_, _≤_};
+ghost use lib.ListN.{length};
+ghost use lib.Seq.{paste};
+ghost use Rattle.queues.specs.Write.{imageBytes, over, writeAnswer, writeBytes, writeSteps};
+
+// 30 to 33
+fn write_steps(format: QueueFormat, fixed: &[u8], text: &[u8]) -> Checked
+    ensures { λ r. ⌜ r ≡ writeSteps format (now (fixed .entry)) (now (text .entry)) ⌝ }
+{
+    match format_steps(format) {
+        Checked::Refused(r) => Checked::Refused(r),
+        Checked::Passed => {
+            let kind = format.kind;
+            if fixed.len() != fixed_size(kind).0 {
+                return Checked::Refused(refusal_of(refusal::QUEUE_VALUE));
+            }
+            text_steps(kind, text)
+        }
+    }
+}
+
+fn copy(s: &[u8], out: &mut [u8], at: usize)
+    requires { ⌜ at + length (now s) ≤ length (now out) ⌝ }
+    ensures { λ _. ⌜ now (out .exit) ≡ paste (now (out .entry)) at (now (s .entry)) (length (now (s .entry))) ⌝ }
+{
+    let mut i = 0;
+    while i < s.len() {
+        out[at + i] = s[i];
+        i += 1;
+    }
+}
+
+fn put_head(format: QueueFormat, out: &mut [u8])
+    requires { ⌜ 4 ≤ length (now out) ⌝ }
+    ensures { λ _. ⌜ now (out .exit) ≡ over (imageBytes format []) (now (out .entry)) ⌝ }
+{
+    out[0] = format.kind;
+    out[1] = format.suffix_and_flags;
+    out[2] = 0;
+    out[3] = 0;
+}
+
+fn put_image(format: QueueFormat, fixed: &[u8], text: &[u8], out: &mut [u8])
+    requires { ⌜ 4 + length (now fixed) + length (now text) ≤ length (now out) ⌝ }
+    ensures { λ _. ⌜ now (out .exit) ≡ over (imageBytes format (now (fixed .entry) ++ now (text .entry))) (now (out .entry)) ⌝ }
+{
+    put_head(format, out);
+    copy(fixed, out, 4);
+    copy(text, out, 4 + fixed.len());
+}
+
+// Writes the image of a value: its fixed bytes (GUID, OBJECTID or MULTICAST_ID) and its string, each empty where the
+// type has none. Refused, the output stays as it is.
+pub fn write_image(format: QueueFormat, fixed: &[u8], text: &[u8], out: &mut [u8]) -> Output
+    ensures { λ r. ⌜ r ≡ writeAnswer format (now (fixed .entry)) (now (text .entry)) (now (out .entry)) ⌝ }
+    ensures { λ _. ⌜ now (out .exit) ≡ writeBytes format (now (fixed .entry)) (now (text .entry)) (now (out .entry)) ⌝ }
+{
+    match write_steps(format, fixed, text) {
+        Checked::Refused(r) => Output::Refused(r),
+        Checked::Passed => {
+            let length = 4 + fixed.len() + text.len();
+            if out.len() < length {
+                return Output::Refused(refusal_of(refusal::OUTPUT_SHORT));
+            }
+            put_image(format, fixed, text, out);
+            Output::Written(Bytes(length))
+        }
+    }
+}

@@ -10,7 +10,8 @@ use Rattle.rules.specs.Refusal.{bytes}
 use Rattle.rules.specs.Summary.{partOf}
 use Rattle.queues.specs.Read.{readImage, valueOf}
 use Rattle.queues.specs.Steps.{isString}
-use Rattle.queues.specs.Write.{over, writeAnswer, writeBytes}
+use Rattle.octets.specs.Over.{over}
+use Rattle.queues.specs.Write.{writeAnswer, writeBytes}
 use Rattle.queues.specs.declared.format.QueueFormat.{QueueFormat}
 use Rattle.queues.specs.declared.image.Image.{Image}
 use Rattle.queues.specs.declared.image.ImageRead.the-variants.{Accepted}

@@ -4,6 +4,7 @@ use mathlib.Core.Bool.{not, cond}
 use mathlib.Core.List.{List, _∷_, _++_}
 use lib.ListN.{length, drop}
 use lib.Dec.{eqb, ltb}
+use Rattle.octets.specs.Over.{over}
 use Rattle.rules.specs.Refusal.{bytes, refusal}
 use Rattle.rules.specs.declared.refusal.Checked.{Checked}
 use Rattle.rules.specs.declared.refusal.Checked.the-variants.{Passed, Refused as Checked·Refused}
@@ -23,16 +24,12 @@ writeSteps f fixed text =
     (cond (not (eqb (length fixed) (fixedSize (f .kind)))) (refused 32)
     (valueSteps (f .kind) (fixed ++ text)))
 
--- "Written output starts at its first byte; bytes behind it stay"
-unfoldable pub over : List ℕ → List ℕ → List ℕ
-over image out = image ++ drop (length image) out
-
 -- ", then 13"
 unfoldable pub answerAfter : Checked → List ℕ → List ℕ → Output
 answerAfter Passed image out = cond (ltb (length out) (length image)) (Refused (refusal 13 0)) (Written (bytes (length image)))
 answerAfter (Checked·Refused r) image out = Refused r
 
--- "no output byte written" on refusal
+-- "no output byte written" on refusal; "Written output starts at its first byte; bytes behind it stay"
 unfoldable pub bytesAfter : Checked → List ℕ → List ℕ → List ℕ
 bytesAfter Passed image out = cond (ltb (length out) (length image)) out (over image out)
 bytesAfter (Checked·Refused r) image out = out

@@ -13,7 +13,8 @@ ghost use mathlib.Core.List.{[], _++_};
 ghost use Prim.Native.Nat.{_+_, _≤_};
 ghost use lib.ListN.{length};
 ghost use lib.Seq.{paste};
-ghost use Rattle.queues.specs.Write.{imageBytes, over, writeAnswer, writeBytes, writeSteps};
+ghost use Rattle.octets.specs.Over.{over};
+ghost use Rattle.queues.specs.Write.{imageBytes, writeAnswer, writeBytes, writeSteps};
 
 // 30 to 33
 fn write_steps(format: QueueFormat, fixed: &[u8], text: &[u8]) -> Checked

@@ -1,8 +1,12 @@
 pub mod Again
+pub mod Bytes
 pub mod Carried
 pub mod Fields
 pub mod GivenOf
+pub mod Header
 pub mod Hidden
+pub mod Laid
+pub mod Over
 pub mod Parts
 pub mod Placed
 pub mod PropertiesShown

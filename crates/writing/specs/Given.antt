@@ -19,6 +19,21 @@ pub record Given : Type 0 where
   pub extension : List ℕ
   pub body : List ℕ
 
+abbrev pub given : SectionValues → List ℕ → List ℕ → List ℕ → List ℕ → List ℕ → List ℕ → List ℕ → List ℕ → List ℕ → Given
+given values correlationId senderId encryptionKey signature senderCert providerInfo label extension body =
+    record {
+      values = values;
+      correlationId = correlationId;
+      senderId = senderId;
+      encryptionKey = encryptionKey;
+      signature = signature;
+      senderCert = senderCert;
+      providerInfo = providerInfo;
+      label = label;
+      extension = extension;
+      body = body;
+    }
+
 -- the fields of the SecurityHeader that would be written; "X bits .. are written zero"
 unfoldable pub securityGiven : Given → SecurityFields
 securityGiven g =

@@ -19,7 +19,8 @@ use Rattle.rules.specs.declared.refusal.Checked.the-variants.{Passed, Refused}
 use Rattle.queues.specs.Read.{afterSteps, formatOf, imageOf, readImage, valueOf}
 use Rattle.queues.specs.RoundTrip.{fixedOf, textOf, reservedZero, ReadsBack, ReadWritesBack, StringIsLabel, WritesBack, WrittenReadsBack}
 use Rattle.queues.specs.Steps.{andThen, fixedSize, formatSteps, isString, valueSteps}
-use Rattle.queues.specs.Write.{answerAfter, bytesAfter, imageBytes, over, writeAnswer, writeBytes, writeSteps}
+use Rattle.octets.specs.Over.{over}
+use Rattle.queues.specs.Write.{answerAfter, bytesAfter, imageBytes, writeAnswer, writeBytes, writeSteps}
 use Rattle.queues.specs.declared.format.QueueFormat.{QueueFormat}
 use Rattle.queues.specs.declared.image.Image.{Image}
 use Rattle.queues.specs.declared.image.ImageRead.the-variants.{Accepted, Refused as Read·Refused}

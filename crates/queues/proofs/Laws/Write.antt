@@ -13,7 +13,8 @@ use Rattle.rules.specs.declared.refusal.Refusal.{Refusal}
 use Rattle.rules.specs.declared.refusal.Checked.{Checked}
 use Rattle.rules.specs.declared.refusal.Checked.the-variants.{Passed, Refused}
 use Rattle.queues.specs.Steps.{andThen, fixedSize, formatSteps, stringStep, textSteps, valueSteps}
-use Rattle.queues.specs.Write.{imageBytes, over, writeSteps}
+use Rattle.octets.specs.Over.{over}
+use Rattle.queues.specs.Write.{imageBytes, writeSteps}
 use Rattle.queues.specs.declared.format.QueueFormat.{QueueFormat}
 use Rattle.queues.proofs.Laws.Steps.{fixedSize-le, many-units, value-split}
 

@@ -1,0 +1,12 @@
+-- Bytes written over an output.
+use Prim.Native.Nat.{ℕ}
+use mathlib.Core.List.{List, _++_}
+use lib.ListN.{length, take, drop}
+
+-- over the output's first bytes; the bytes after them stay
+unfoldable pub over : List ℕ → List ℕ → List ℕ
+over part out = part ++ drop (length part) out
+
+-- from an offset on; the bytes before it stay too
+unfoldable pub overAt : ℕ → List ℕ → List ℕ → List ℕ
+overAt at part out = take at out ++ over part (drop at out)

@@ -1,10 +1,12 @@
-// Reads one section on standard input and writes its summary and its support copy. A first argument, whatever it is,
-// says that a SecurityHeader stands first. Sections up to 65,536 bytes.
+// Reads one section on standard input and prints its summary, its support copy, and the section written again from what
+// was read. A first argument, whatever it is, says that a SecurityHeader stands first. Sections up to 65,536 bytes.
 use libc::STDIN_FILENO;
 use libc::STDOUT_FILENO;
 use octets::count::Bytes;
+use octets::number::u8_at;
 use octets::part::within;
 use reading::section::read;
+use reading::view::part_of;
 use rules::properties::PropertiesFields;
 use rules::refusal::Refusal;
 use rules::section::Output;
@@ -12,6 +14,9 @@ use rules::section::Part;
 use rules::section::Reading;
 use rules::section::Section;
 use support::copy::support_copy;
+use writing::section::write_section;
+use writing::values::CorrelationId;
+use writing::values::SectionValues;
 
 fn text(s: &[u8]) {
     io::write_all(STDOUT_FILENO, s);
@@ -75,16 +80,68 @@ fn hex(s: &[u8]) {
     }
 }
 
-fn copy(s: &[u8], security_first: bool) {
-    let mut out = io::large_buffer();
-    match support_copy(s, security_first, &mut out) {
+fn output(name: &[u8], answer: Output, out: &[u8]) {
+    match answer {
         Output::Refused(r) => refused(r),
         Output::Written(n) => {
-            text(b"support copy ");
-            hex(within(&out, Bytes(0), n));
+            text(name);
+            hex(within(out, Bytes(0), n));
             text(b"\n");
         }
     }
+}
+
+fn copy(s: &[u8], security_first: bool) {
+    let mut out = io::large_buffer();
+    let answer = support_copy(s, security_first, &mut out);
+    output(b"support copy ", answer, &out);
+}
+
+fn correlation_id(bytes: &[u8]) -> CorrelationId {
+    let mut id = [0u8; 20];
+    let mut i = 0;
+    while i < 20 {
+        id[i] = u8_at(bytes, i);
+        i += 1;
+    }
+    id
+}
+
+fn values(r: Section) -> SectionValues {
+    let f = r.summary.properties;
+    let allocation_body_size = f.allocation_body_size;
+    SectionValues {
+        security_first: r.summary.security_first,
+        security_flags: (r.summary.security.fields.flags % 4096) as u16,
+        flags: f.flags,
+        message_class: f.message_class,
+        body_type: f.body_type,
+        application_tag: r.application_tag,
+        allocation_body_size,
+        privacy_level: f.privacy_level,
+        hash_algorithm: f.hash_algorithm,
+        encryption_algorithm: f.encryption_algorithm,
+    }
+}
+
+fn write_again(s: &[u8], r: Section) {
+    let mut out = io::large_buffer();
+    let security = r.summary.security.parts;
+    let parts = r.summary.parts;
+    let answer = write_section(
+        values(r),
+        correlation_id(part_of(s, r.correlation_id)),
+        part_of(s, security.sender_id),
+        part_of(s, security.encryption_key),
+        part_of(s, security.signature),
+        part_of(s, security.sender_cert),
+        part_of(s, security.provider_info),
+        part_of(s, parts.label),
+        part_of(s, parts.extension),
+        part_of(s, parts.body),
+        &mut out,
+    );
+    output(b"written again ", answer, &out);
 }
 
 fn inspect(s: &[u8], security_first: bool) {
@@ -93,6 +150,7 @@ fn inspect(s: &[u8], security_first: bool) {
         Reading::Accepted(r) => {
             accepted(r);
             copy(s, security_first);
+            write_again(s, r);
         }
     }
 }

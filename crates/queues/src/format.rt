@@ -1,4 +1,10 @@
 // The queue format type: 004's m_qft and m_SuffixAndFlags, and the numbers that belong to them.
+use crate::suffix::deadletter_passes;
+use crate::suffix::deadxact_passes;
+use crate::suffix::journal_passes;
+use crate::suffix::none_passes;
+use crate::suffix::subqueue_passes;
+use crate::suffix::xactonly_passes;
 ghost use mathlib.Core.Path.{_≡_};
 ghost use Rattle.queues.specs.Format.{flags, pairPasses, queueFormat, suffix};
 
@@ -75,82 +81,22 @@ impl QueueFormat {
         let suffix = self.suffix();
         let flags = self.flags();
         if suffix == Self::SUFFIX_TYPE_NONE {
-            if flags != Self::FLAG_NOT_SYSTEM {
-                return false;
-            }
-            if kind == Self::TYPE_MACHINE {
-                return false;
-            }
-            return true;
+            return none_passes(flags, kind);
         }
         if suffix == Self::SUFFIX_TYPE_JOURNAL {
-            if flags != Self::FLAG_SYSTEM {
-                return false;
-            }
-            if kind == Self::TYPE_CONNECTOR {
-                return false;
-            }
-            if kind == Self::TYPE_DL {
-                return false;
-            }
-            if kind == Self::TYPE_MULTICAST {
-                return false;
-            }
-            return true;
+            return journal_passes(flags, kind);
         }
         if suffix == Self::SUFFIX_TYPE_DEADLETTER {
-            if flags != Self::FLAG_SYSTEM {
-                return false;
-            }
-            if kind == Self::TYPE_PUBLIC {
-                return false;
-            }
-            if kind == Self::TYPE_PRIVATE {
-                return false;
-            }
-            if kind == Self::TYPE_CONNECTOR {
-                return false;
-            }
-            if kind == Self::TYPE_DL {
-                return false;
-            }
-            if kind == Self::TYPE_MULTICAST {
-                return false;
-            }
-            return true;
+            return deadletter_passes(flags, kind);
         }
         if suffix == Self::SUFFIX_TYPE_DEADXACT {
-            if flags != Self::FLAG_SYSTEM {
-                return false;
-            }
-            if kind == Self::TYPE_DIRECT {
-                return true;
-            }
-            if kind == Self::TYPE_MACHINE {
-                return true;
-            }
-            return false;
+            return deadxact_passes(flags, kind);
         }
         if suffix == Self::SUFFIX_TYPE_XACTONLY {
-            if kind != Self::TYPE_CONNECTOR {
-                return false;
-            }
-            if flags == Self::FLAG_NOT_SYSTEM {
-                return true;
-            }
-            if flags == Self::FLAG_SYSTEM {
-                return true;
-            }
-            return false;
+            return xactonly_passes(flags, kind);
         }
         if suffix == Self::SUFFIX_TYPE_SUBQUEUE {
-            if flags != Self::FLAG_NOT_SYSTEM {
-                return false;
-            }
-            if kind == Self::TYPE_SUBQUEUE {
-                return true;
-            }
-            return false;
+            return subqueue_passes(flags, kind);
         }
         false
     }

@@ -3,4 +3,5 @@ pub mod format;
 pub mod image;
 pub mod read;
 mod steps;
+mod suffix;
 pub mod write;

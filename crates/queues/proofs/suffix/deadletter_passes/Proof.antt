@@ -3,40 +3,31 @@ use borrow.Author.Tests.{eq-eqb, ne-eqb}
 use Rattle.rules.specs.Listed.{listed}
 use Rattle.queues.proofs.suffix.deadletter_passes.Statement.{statement}
 use Rattle.queues.proofs.suffix.deadletter_passes.Tie as tie
-use Rattle.queues.proofs.suffix.deadletter_passes.Reads as reads
-use Rattle.queues.proofs.suffix.deadletter_passes.Lts as lts
 
--- src/suffix.rt:43:9
 returns : tie.Need-returns
 unfolding listed
 returns c = simp (ne-eqb _ _ (c .if1 .taken))
 
--- src/suffix.rt:46:9
 returns-2 : tie.Need-returns-2
 unfolding listed
 returns-2 c = simp (eq-eqb _ _ (c .before .if1 .left), eq-eqb _ _ (c .if2 .taken))
 
--- src/suffix.rt:49:9
 returns-3 : tie.Need-returns-3
 unfolding listed
 returns-3 c = simp (eq-eqb _ _ (c .before .before .if1 .left), ne-eqb _ _ (c .before .if2 .left), eq-eqb _ _ (c .if3 .taken))
 
--- src/suffix.rt:52:9
 returns-4 : tie.Need-returns-4
 unfolding listed
 returns-4 c = simp (eq-eqb _ _ (c .before .before .before .if1 .left), ne-eqb _ _ (c .before .before .if2 .left), ne-eqb _ _ (c .before .if3 .left), eq-eqb _ _ (c .if4 .taken))
 
--- src/suffix.rt:55:9
 returns-5 : tie.Need-returns-5
 unfolding listed
 returns-5 c = simp (eq-eqb _ _ (c .before .before .before .before .if1 .left), ne-eqb _ _ (c .before .before .before .if2 .left), ne-eqb _ _ (c .before .before .if3 .left), ne-eqb _ _ (c .before .if4 .left), eq-eqb _ _ (c .if5 .taken))
 
--- src/suffix.rt:58:9
 returns-6 : tie.Need-returns-6
 unfolding listed
 returns-6 c = simp (eq-eqb _ _ (c .before .before .before .before .before .if1 .left), ne-eqb _ _ (c .before .before .before .before .if2 .left), ne-eqb _ _ (c .before .before .before .if3 .left), ne-eqb _ _ (c .before .before .if4 .left), ne-eqb _ _ (c .before .if5 .left), eq-eqb _ _ (c .if6 .taken))
 
--- src/suffix.rt:39:1
 returns-7 : tie.Need-returns-7
 unfolding listed
 returns-7 c = simp (eq-eqb _ _ (c .before .before .before .before .before .if1 .left), ne-eqb _ _ (c .before .before .before .before .if2 .left), ne-eqb _ _ (c .before .before .before .if3 .left), ne-eqb _ _ (c .before .before .if4 .left), ne-eqb _ _ (c .before .if5 .left), ne-eqb _ _ (c .if6 .left))

@@ -3,30 +3,23 @@ use borrow.Author.Tests.{eq-eqb, ne-eqb}
 use Rattle.rules.specs.Listed.{listed}
 use Rattle.queues.proofs.suffix.journal_passes.Statement.{statement}
 use Rattle.queues.proofs.suffix.journal_passes.Tie as tie
-use Rattle.queues.proofs.suffix.journal_passes.Reads as reads
-use Rattle.queues.proofs.suffix.journal_passes.Lts as lts
 
--- src/suffix.rt:25:9
 returns : tie.Need-returns
 unfolding listed
 returns c = simp (ne-eqb _ _ (c .if1 .taken))
 
--- src/suffix.rt:28:9
 returns-2 : tie.Need-returns-2
 unfolding listed
 returns-2 c = simp (eq-eqb _ _ (c .before .if1 .left), eq-eqb _ _ (c .if2 .taken))
 
--- src/suffix.rt:31:9
 returns-3 : tie.Need-returns-3
 unfolding listed
 returns-3 c = simp (eq-eqb _ _ (c .before .before .if1 .left), ne-eqb _ _ (c .before .if2 .left), eq-eqb _ _ (c .if3 .taken))
 
--- src/suffix.rt:34:9
 returns-4 : tie.Need-returns-4
 unfolding listed
 returns-4 c = simp (eq-eqb _ _ (c .before .before .before .if1 .left), ne-eqb _ _ (c .before .before .if2 .left), ne-eqb _ _ (c .before .if3 .left), eq-eqb _ _ (c .if4 .taken))
 
--- src/suffix.rt:21:1
 returns-5 : tie.Need-returns-5
 unfolding listed
 returns-5 c = simp (eq-eqb _ _ (c .before .before .before .if1 .left), ne-eqb _ _ (c .before .before .if2 .left), ne-eqb _ _ (c .before .if3 .left), ne-eqb _ _ (c .if4 .left))

@@ -3,20 +3,15 @@ use borrow.Author.Tests.{eq-eqb, ne-eqb}
 use Rattle.rules.specs.Listed.{listed}
 use Rattle.queues.proofs.suffix.none_passes.Statement.{statement}
 use Rattle.queues.proofs.suffix.none_passes.Tie as tie
-use Rattle.queues.proofs.suffix.none_passes.Reads as reads
-use Rattle.queues.proofs.suffix.none_passes.Lts as lts
 
--- src/suffix.rt:13:9
 returns : tie.Need-returns
 unfolding listed
 returns c = simp (ne-eqb _ _ (c .if1 .taken))
 
--- src/suffix.rt:16:9
 returns-2 : tie.Need-returns-2
 unfolding listed
 returns-2 c = simp (eq-eqb _ _ (c .before .if1 .left), eq-eqb _ _ (c .if2 .taken))
 
--- src/suffix.rt:9:1
 returns-3 : tie.Need-returns-3
 unfolding listed
 returns-3 c = simp (eq-eqb _ _ (c .before .if1 .left), ne-eqb _ _ (c .if2 .left))

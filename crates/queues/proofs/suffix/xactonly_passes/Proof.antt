@@ -4,25 +4,19 @@ use borrow.Author.Tests.{eq-eqb, ne-eqb}
 use Rattle.rules.specs.Listed.{listed}
 use Rattle.queues.proofs.suffix.xactonly_passes.Statement.{statement}
 use Rattle.queues.proofs.suffix.xactonly_passes.Tie as tie
-use Rattle.queues.proofs.suffix.xactonly_passes.Reads as reads
-use Rattle.queues.proofs.suffix.xactonly_passes.Lts as lts
 
--- src/suffix.rt:82:9
 returns : tie.Need-returns
 unfolding listed
 returns c = simp (and-false, ne-eqb _ _ (c .if1 .taken))
 
--- src/suffix.rt:85:9
 returns-2 : tie.Need-returns-2
 unfolding listed
 returns-2 c = simp (eq-eqb _ _ (c .before .if1 .left), eq-eqb _ _ (c .if2 .taken))
 
--- src/suffix.rt:88:9
 returns-3 : tie.Need-returns-3
 unfolding listed
 returns-3 c = simp (eq-eqb _ _ (c .before .before .if1 .left), ne-eqb _ _ (c .before .if2 .left), eq-eqb _ _ (c .if3 .taken))
 
--- src/suffix.rt:78:1
 returns-4 : tie.Need-returns-4
 unfolding listed
 returns-4 c = simp (eq-eqb _ _ (c .before .before .if1 .left), ne-eqb _ _ (c .before .if2 .left), ne-eqb _ _ (c .if3 .left))

@@ -4,80 +4,55 @@ use borrow.Author.Needs.{needs}
 use Rattle.queues.specs.Format.{pairPasses}
 use Rattle.queues.proofs.format.QueueFormat.pair_passes.Statement.{statement}
 use Rattle.queues.proofs.format.QueueFormat.pair_passes.Tie as tie
-use Rattle.queues.proofs.format.QueueFormat.pair_passes.Reads as reads
-use Rattle.queues.proofs.format.QueueFormat.pair_passes.Lts as lts
-use Rattle.queues.proofs.format.QueueFormat.flags.Reads as flags-reads
-use Rattle.queues.proofs.format.QueueFormat.suffix.Reads as suffix-reads
-use Rattle.queues.proofs.suffix.deadletter_passes.Reads as deadletter-passes-reads
-use Rattle.queues.proofs.suffix.deadxact_passes.Reads as deadxact-passes-reads
-use Rattle.queues.proofs.suffix.journal_passes.Reads as journal-passes-reads
-use Rattle.queues.proofs.suffix.none_passes.Reads as none-passes-reads
-use Rattle.queues.proofs.suffix.subqueue_passes.Reads as subqueue-passes-reads
-use Rattle.queues.proofs.suffix.xactonly_passes.Reads as xactonly-passes-reads
 
--- src/format.rt:81:13
 suffix-requires : tie.Need-suffix-requires
 suffix-requires c κs = search needs
 
--- src/format.rt:82:13
 flags-requires : tie.Need-flags-requires
 flags-requires c κs = search needs
 
--- src/format.rt:84:13
 none-passes-requires : tie.Need-none-passes-requires
 none-passes-requires c κs = search needs
 
--- src/format.rt:84:13
 returns : tie.Need-returns
 unfolding pairPasses
 returns c = simp (← c .before .before .before .suffix .ensures, ← c .before .before .flags .ensures, eq-eqb _ _ (c .before .if1 .taken), ← c .none-passes .ensures)
 
--- src/format.rt:87:13
 journal-passes-requires : tie.Need-journal-passes-requires
 journal-passes-requires c κs = search needs
 
--- src/format.rt:87:13
 returns-2 : tie.Need-returns-2
 unfolding pairPasses
 returns-2 c = simp (← c .before .before .before .before .suffix .ensures, ← c .before .before .before .flags .ensures, ne-eqb _ _ (c .before .before .if1 .left), eq-eqb _ _ (c .before .if2 .taken), ← c .journal-passes .ensures)
 
--- src/format.rt:90:13
 deadletter-passes-requires : tie.Need-deadletter-passes-requires
 deadletter-passes-requires c κs = search needs
 
--- src/format.rt:90:13
 returns-3 : tie.Need-returns-3
 unfolding pairPasses
 returns-3 c = simp (← c .before .before .before .before .before .suffix .ensures, ← c .before .before .before .before .flags .ensures, ne-eqb _ _ (c .before .before .before .if1 .left), ne-eqb _ _ (c .before .before .if2 .left), eq-eqb _ _ (c .before .if3 .taken), ← c .deadletter-passes .ensures)
 
--- src/format.rt:93:13
 deadxact-passes-requires : tie.Need-deadxact-passes-requires
 deadxact-passes-requires c κs = search needs
 
--- src/format.rt:93:13
 returns-4 : tie.Need-returns-4
 unfolding pairPasses
 returns-4 c = simp (← c .before .before .before .before .before .before .suffix .ensures, ← c .before .before .before .before .before .flags .ensures, ne-eqb _ _ (c .before .before .before .before .if1 .left), ne-eqb _ _ (c .before .before .before .if2 .left), ne-eqb _ _ (c .before .before .if3 .left), eq-eqb _ _ (c .before .if4 .taken), ← c .deadxact-passes .ensures)
 
--- src/format.rt:96:13
 xactonly-passes-requires : tie.Need-xactonly-passes-requires
 xactonly-passes-requires c κs = search needs
 
--- src/format.rt:96:13
 returns-5 : tie.Need-returns-5
 unfolding pairPasses
 returns-5 c = simp (← c .before .before .before .before .before .before .before .suffix .ensures, ← c .before .before .before .before .before .before .flags .ensures, ne-eqb _ _ (c .before .before .before .before .before .if1 .left), ne-eqb _ _ (c .before .before .before .before .if2 .left), ne-eqb _ _ (c .before .before .before .if3 .left), ne-eqb _ _ (c .before .before .if4 .left), eq-eqb _ _ (c .before .if5 .taken), ← c .xactonly-passes .ensures)
 
--- src/format.rt:99:13
 subqueue-passes-requires : tie.Need-subqueue-passes-requires
 subqueue-passes-requires c κs = search needs
 
--- src/format.rt:99:13
 returns-6 : tie.Need-returns-6
 unfolding pairPasses
 returns-6 c = simp (← c .before .before .before .before .before .before .before .before .suffix .ensures, ← c .before .before .before .before .before .before .before .flags .ensures, ne-eqb _ _ (c .before .before .before .before .before .before .if1 .left), ne-eqb _ _ (c .before .before .before .before .before .if2 .left), ne-eqb _ _ (c .before .before .before .before .if3 .left), ne-eqb _ _ (c .before .before .before .if4 .left), ne-eqb _ _ (c .before .before .if5 .left), eq-eqb _ _ (c .before .if6 .taken), ← c .subqueue-passes .ensures)
 
--- src/format.rt:77:5
 returns-7 : tie.Need-returns-7
 unfolding pairPasses
 returns-7 c = simp (← c .before .before .before .before .before .before .before .suffix .ensures, ← c .before .before .before .before .before .before .flags .ensures, ne-eqb _ _ (c .before .before .before .before .before .if1 .left), ne-eqb _ _ (c .before .before .before .before .if2 .left), ne-eqb _ _ (c .before .before .before .if3 .left), ne-eqb _ _ (c .before .before .if4 .left), ne-eqb _ _ (c .before .if5 .left), ne-eqb _ _ (c .if6 .left))

@@ -6,7 +6,7 @@ use mathlib.Core.List.{List, [], _∷_, _++_}
 use native.Mathlib.Nat.{mod-one, zero-mod, mod-mod, mod-eq-of-lt, zero-min, min-zero, suc-min-suc, min-eq-left}
 use native.Mathlib.Decide.{decLt}
 use native.Mathlib.Omega.{arith}
-use lib.ListN.{length, getD, take, drop, replicate, length-append, length-replicate, getD-replicate, List·getD-eq-default, List·getD-append}
+use lib.ListN.{length, getD, take, drop, replicate, length-replicate, getD-replicate, List·getD-eq-default, List·getD-append}
 use lib.Seq.{ext-getD, getD-drop, getD-append-add}
 use Rattle.rules.specs.Judged.{masked}
 
@@ -89,12 +89,6 @@ alike-masked ks s rest h =
     alike-within ks s (masked ks s ++ rest) λ i l.
     rw (List·getD-append (masked ks s) rest 0 i (rw length-masked-le l), getD-masked ks s i)
     (sym (mod-mod (getD s i 0) (2 ^ getD ks i 0)))
-
--- masked once more, nothing changes
-pub masked-masked : (ks s rest : List ℕ) → length ks ≤ length s → masked ks (masked ks s ++ rest) ≡ masked ks s
-masked-masked ks s rest h =
-    let room : length ks ≤ length (masked ks s ++ rest) = simp (length-append, length-masked-le) (omega arith) in
-    sym (masked-alike ks s (masked ks s ++ rest) h room .1 (alike-masked ks s rest h))
 
 -- one mask after another: the second counts from the first one's end on
 pub alike-append : (ks ls s t : List ℕ) (n : ℕ) → length ks ≡ n

@@ -10,3 +10,7 @@ over part out = part ++ drop (length part) out
 -- from an offset on; the bytes before it stay too
 unfoldable pub overAt : ℕ → List ℕ → List ℕ → List ℕ
 overAt at part out = take at out ++ over part (drop at out)
+
+-- over the output's first bytes, as many as both hold
+unfoldable pub copied : List ℕ → List ℕ → List ℕ
+copied s out = over (take (length out) s) out

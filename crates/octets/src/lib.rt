@@ -1,6 +1,8 @@
-// Bytes, before any header: counts, little-endian numbers, padding, 16-bit text, and parts of a slice.
+// Bytes, before any header: counts, little-endian numbers, padding, 16-bit text, parts of a slice, and what is written
+// over an output.
 pub mod count;
 pub mod number;
+pub mod over;
 pub mod padding;
 pub mod part;
 pub mod text;

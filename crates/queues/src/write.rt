@@ -5,6 +5,7 @@ use crate::steps::format_steps;
 use crate::steps::refusal_of;
 use crate::steps::text_steps;
 use octets::count::Bytes;
+use octets::over::copy;
 use rules::refusal;
 use rules::refusal::Checked;
 use rules::section::Output;
@@ -12,7 +13,6 @@ ghost use mathlib.Core.Path.{_≡_};
 ghost use mathlib.Core.List.{[], _++_};
 ghost use Prim.Native.Nat.{_+_, _≤_};
 ghost use lib.ListN.{length};
-ghost use lib.Seq.{paste};
 ghost use Rattle.octets.specs.Over.{over};
 ghost use Rattle.queues.specs.Write.{imageBytes, writeAnswer, writeBytes, writeSteps};
 
@@ -32,17 +32,6 @@ fn write_steps(format: QueueFormat, fixed: &[u8], text: &[u8]) -> Checked
     }
 }
 
-fn copy(s: &[u8], out: &mut [u8], at: usize)
-    requires { ⌜ at + length (now s) ≤ length (now out) ⌝ }
-    ensures { λ _. ⌜ now (out .exit) ≡ paste (now (out .entry)) at (now (s .entry)) (length (now (s .entry))) ⌝ }
-{
-    let mut i = 0;
-    while i < s.len() {
-        out[at + i] = s[i];
-        i += 1;
-    }
-}
-
 fn put_head(format: QueueFormat, out: &mut [u8])
     requires { ⌜ 4 ≤ length (now out) ⌝ }
     ensures { λ _. ⌜ now (out .exit) ≡ over (imageBytes format []) (now (out .entry)) ⌝ }
@@ -58,8 +47,8 @@ fn put_image(format: QueueFormat, fixed: &[u8], text: &[u8], out: &mut [u8])
     ensures { λ _. ⌜ now (out .exit) ≡ over (imageBytes format (now (fixed .entry) ++ now (text .entry))) (now (out .entry)) ⌝ }
 {
     put_head(format, out);
-    copy(fixed, out, 4);
-    copy(text, out, 4 + fixed.len());
+    copy(fixed, &mut out[4..]);
+    copy(text, &mut out[4 + fixed.len()..]);
 }
 
 // Writes the image of a value: its fixed bytes (GUID, OBJECTID or MULTICAST_ID) and its string, each empty where the

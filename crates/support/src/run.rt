@@ -1,5 +1,6 @@
 // Runs of a copy: bytes kept, a byte of which the low four bits are kept, bytes of which none are.
-// Plain byte loops, so that they become memory moves and fills.
+use octets::over::copy;
+use octets::over::zero;
 ghost use mathlib.Core.Path.{_≡_};
 ghost use mathlib.Core.List.{List};
 ghost use Prim.Native.Nat.{ℕ, _+_, _≤_, _<_};
@@ -11,11 +12,7 @@ pub(crate) fn keep(s: &[u8], out: &mut [u8], at: usize, n: usize)
     requires { ⌜ at + n ≤ length (now out) ⌝ }
     ensures { λ _. ⌜ now (out .exit) ≡ putAt at (replicate n 8) (now (s .entry)) (now (out .entry)) ⌝ }
 {
-    let mut i = 0;
-    while i < n {
-        out[at + i] = s[at + i];
-        i += 1;
-    }
+    copy(&s[at..at + n], &mut out[at..at + n]);
 }
 
 pub(crate) fn low_four(s: &[u8], out: &mut [u8], at: usize)
@@ -31,9 +28,5 @@ pub(crate) fn hide(out: &mut [u8], at: usize, zeros: usize)
     requires { ⌜ at + zeros ≤ length (now out) ⌝ }
     ensures { λ _. ⌜ ((s : List ℕ) → at + zeros ≤ length s → now (out .exit) ≡ putAt at (replicate zeros 0) s (now (out .entry))) ⌝ }
 {
-    let mut i = 0;
-    while i < zeros {
-        out[at + i] = 0;
-        i += 1;
-    }
+    zero(&mut out[at..at + zeros]);
 }

@@ -6,7 +6,6 @@ pub mod GivenOf
 pub mod Header
 pub mod Hidden
 pub mod Laid
-pub mod Over
 pub mod Parts
 pub mod Placed
 pub mod PropertiesShown

@@ -1,5 +1,5 @@
 // The fixed fields of both headers, and the little-endian numbers that they are, stored at an offset of the output.
-use crate::part::write_part;
+use octets::over::copy;
 use rules::properties::PropertiesFields;
 use rules::security::SecurityFields;
 ghost use mathlib.Core.Path.{_≡_};
@@ -59,7 +59,7 @@ pub(crate) fn write_properties_head(
     write_u8(out, 0, f.flags);
     write_u8(out, 1, f.label_length.0 as u8);
     write_u16(out, 2, f.message_class);
-    write_part(&correlation_id, &mut out[4..]);
+    copy(&correlation_id, &mut out[4..]);
     write_u32(out, 24, f.body_type);
     write_u32(out, 28, application_tag);
 }

@@ -3,8 +3,6 @@ use crate::fixed::write_properties_head;
 use crate::fixed::write_properties_tail;
 use crate::fixed::write_security_fixed;
 use crate::part::write_padded_part;
-use crate::part::write_part;
-use crate::part::write_zeros;
 use crate::steps::place_end;
 use crate::steps::place_properties;
 use crate::steps::properties_given;
@@ -13,6 +11,8 @@ use crate::values::CorrelationId;
 use crate::values::Placed;
 use crate::values::SectionValues;
 use octets::count::Bytes;
+use octets::over::copy;
+use octets::over::zero;
 use octets::padding::padding;
 use rules::refusal;
 use rules::refusal::Refusal;
@@ -83,9 +83,9 @@ fn write_properties_parts(label: &[u8], extension: &[u8], body: &[u8], out: &mut
 {
     let extension_at = label.len();
     let body_at = extension_at + extension.len();
-    write_part(label, out);
-    write_part(extension, &mut out[extension_at..]);
-    write_part(body, &mut out[body_at..]);
+    copy(label, out);
+    copy(extension, &mut out[extension_at..]);
+    copy(body, &mut out[body_at..]);
 }
 
 fn write_properties(
@@ -105,7 +105,7 @@ fn write_properties(
     write_properties_head(fields, correlation_id, values.application_tag, out);
     write_properties_tail(fields, &mut out[32..]);
     write_properties_parts(label, extension, body, &mut out[56..]);
-    write_zeros(out, size, zeros);
+    zero(&mut out[size..size + zeros]);
 }
 
 // The section, where every step has passed and the output has room. Its MessagePropertiesHeader begins at `start`.

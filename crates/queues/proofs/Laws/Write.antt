@@ -1,12 +1,11 @@
--- What the writer's steps promise, and an image laid over an output.
+-- What the writer's steps promise, and an image's length and first bytes.
 use Prim.Native.Nat.{ℕ, _+_, _≤_, _<_}
-use mathlib.Core.Path.{_≡_, refl, sym, ap, _∙_}
+use mathlib.Core.Path.{_≡_, refl, sym, _∙_}
 use mathlib.Core.Bool.{Bool, true, false}
-use mathlib.Core.List.{List, [], _∷_, _++_, append-assoc}
+use mathlib.Core.List.{List, [], _∷_, _++_}
 use native.Mathlib.Omega.{arith}
 use borrow.Author.Tests.{lt-ltb, le-ltb, ltb-false, ltb-true, eqb-true}
-use lib.ListN.{length, take, drop, set, length-append, length-drop}
-use lib.Seq.{drop-drop, take-length, paste, take-paste, drop-paste}
+use lib.ListN.{length, set, length-append}
 use lib.Dec.{eqb, ltb}
 use Rattle.rules.specs.Listed.{listed}
 use Rattle.rules.specs.declared.refusal.Refusal.{Refusal}
@@ -61,23 +60,6 @@ passing f fixed text p = go (formatSteps f) (eqb (length fixed) (fixedSize (f .k
           text-short = passed-text (f .kind) text (sym (value-split (f .kind) fixed text n) ∙ v);
         }
 
--- a copy behind a copy: both are there
-paste-paste : (d s t : List ℕ) (at : ℕ) → at + length s + length t ≤ length d
-    → paste (paste d at s (length s)) (at + length s) t (length t) ≡ take at d ++ (s ++ t) ++ drop (at + length (s ++ t)) d
-paste-paste d s t at h =
-    let n = length s in
-    let m = length t in
-    let first : List ℕ = paste d at s n in
-    let end : at + n + m ≡ at + length (s ++ t) = omega (arith, length-append s t) in
-    let rest : drop (at + n + m) first ≡ drop (at + length (s ++ t)) d =
-    sym (drop-drop m (at + n) first)
-    ∙ ap (drop m) (drop-paste d at s n (omega arith) (omega arith))
-    ∙ drop-drop m (at + n) d
-    ∙ ap (λ (k : ℕ). drop k d) end in
-    ap (λ (l : List ℕ). l ++ take m t ++ drop (at + n + m) first) (take-paste d at s n (omega arith) (omega arith))
-    ∙ ap (λ (l : List ℕ). take at d ++ take n s ++ take m t ++ l) rest
-    ∙ simp (take-length, append-assoc)
-
 -- the stores of the first four bytes
 pub head-over : (f : QueueFormat) (out : List ℕ) → 4 ≤ length out
     → set (set (set (set out 0 (f .kind)) 1 (f .«suffix_and_flags»)) 2 0) 3 0 ≡ over (imageBytes f []) out
@@ -91,16 +73,3 @@ head-over f (a ∷ b ∷ c ∷ d ∷ rest) h = refl
 pub length-image : (f : QueueFormat) (fixed text : List ℕ) → length (imageBytes f (fixed ++ text)) ≡ 4 + length fixed + length text
 unfolding imageBytes
 length-image f fixed text = omega (arith, length-append fixed text)
-
--- a copy behind them, and one behind that
-pub image-over : (f : QueueFormat) (fixed text out : List ℕ) → 4 + length fixed + length text ≤ length out
-    → paste (paste (over (imageBytes f []) out) 4 fixed (length fixed)) (4 + length fixed) text (length text)
-    ≡ over (imageBytes f (fixed ++ text)) out
-unfolding over imageBytes
-image-over f fixed text out h =
-    let v = fixed ++ text in
-    let head : List ℕ = f .kind ∷ f .«suffix_and_flags» ∷ 0 ∷ 0 ∷ drop 4 out in
-    let four : 4 + length v ≡ length (imageBytes f v) = omega arith in
-    paste-paste head fixed text 4 (omega (arith, length-drop 4 out))
-    ∙ ap (λ (r : List ℕ). f .kind ∷ f .«suffix_and_flags» ∷ 0 ∷ 0 ∷ (v ++ r))
-    (sym (drop-drop (length v) 4 head) ∙ drop-drop (length v) 4 out ∙ ap (λ (k : ℕ). drop k out) four)

@@ -2,14 +2,16 @@
 use Prim.Native.Nat.{ℕ, _+_, _-_, _%_, _^_, _≤_, _<_}
 use mathlib.Core.Path.{_≡_, refl, sym, ap, _∙_}
 use mathlib.Core.List.{List, [], _++_, append-assoc, append-nil}
-use native.Mathlib.Nat.{add-assoc, zero-add}
+use native.Mathlib.Nat.{add-assoc, add-sub-cancel-left, zero-add}
 use native.Mathlib.Numerals.{add-one}
 use native.Mathlib.Omega.{arith}
-use lib.ListN.{length, getD, take, drop, set, replicate, length-append, length-drop, length-replicate, replicate-append-replicate, take-append-drop}
-use lib.Seq.{length-take-le, take-at, drop-at, drop-drop, drop-cons, drop-length, set-split}
+use lib.ListN.{length, getD, take, drop, set, replicate, length-append, length-drop, length-replicate}
+use lib.Seq.{getD-drop, length-take-le, take-at, drop-at, drop-drop, drop-cons, drop-length, set-split}
+use Rattle.octets.specs.Over.{over, overAt, copied}
+use Rattle.octets.proofs.Laws.Over.{length-lent, copied-lent, zeros-lent}
 use Rattle.octets.proofs.Laws.Part.{rest-drop}
 use Rattle.rules.specs.Judged.{masked}
-use Rattle.rules.proofs.Laws.Masked.{length-masked-le, masked-append}
+use Rattle.rules.proofs.Laws.Masked.{length-masked-le, masked-append, masked-none, masked-whole}
 use Rattle.support.specs.Put.{put, putAt}
 
 -- a mask put where the one before it ends: both are put
@@ -28,11 +30,6 @@ put-append at ks ls s out hs ho =
     )
     (simp (masked-append, drop-drop, length-append, append-assoc, add-assoc))
 
--- no byte is put
-pub put-none : (at : ℕ) (s out : List ℕ) → out ≡ putAt at [] s out
-unfolding put putAt masked
-put-none at s out = sym (take-append-drop at out)
-
 -- one byte is put: a store
 pub put-one : (k at : ℕ) (s out : List ℕ) → at < length s → at < length out
     → set out at (getD s at 0 % 2 ^ k) ≡ putAt at (replicate 1 k) s out
@@ -40,15 +37,30 @@ unfolding put putAt masked
 put-one k at s out hs ho =
     rw (set-split out at (getD s at 0 % 2 ^ k) ho, drop-cons s at 0 hs, drop-drop, add-one)
 
--- one byte more: a turn of a run's loop
-pub put-more : (k at n : ℕ) (s out now : List ℕ) (byte : ℕ) → now ≡ putAt at (replicate n k) s out
-    → at + n < length s → at + n < length now → at ≤ length out → byte ≡ getD s (at + n) 0 % 2 ^ k
-    → set now (at + n) byte ≡ putAt at (replicate (n + 1) k) s out
-put-more k at n s out now byte e hs hn ho b =
-    let l = length-replicate n k in
-    ap (set now (at + n)) b
-    ∙ put-one k (at + n) s now hs hn
-    ∙ rw (e, ← replicate-append-replicate n 1 k, ← put-append at (replicate n k) (replicate 1 k) s out (omega arith) ho, l)
+-- bytes written that are what the mask keeps
+put-over : (at : ℕ) (ks s out p : List ℕ) → masked ks (drop at s) ≡ p → length p ≡ length ks → overAt at p out ≡ putAt at ks s out
+unfolding over overAt put putAt
+put-over at ks s out p e l = rw (e, l)
+
+-- a run of which all bits are kept: bytes copied through lent parts
+pub put-kept : (at n : ℕ) (s out later : List ℕ) → ((i : ℕ) → getD s i 0 < 256) → at + n ≤ length s → at + n ≤ length out
+    → later ≡ copied (take (at + n - at) (drop at s)) (take (at + n - at) (drop at out))
+    → take at out ++ (later ++ drop (at + n - at) (drop at out)) ≡ putAt at (replicate n 8) s out
+put-kept at n s out later byte hs ho e =
+    let part = take (at + n - at) (drop at s) in
+    let m = length-lent at n s hs in
+    copied-lent at n out ho part later m e
+    ∙ put-over at (replicate n 8) s out part
+    (masked-whole n (drop at s) (λ i. rw getD-drop (byte (at + i))) ∙ ap (λ (k : ℕ). take k (drop at s)) (sym (add-sub-cancel-left at n)))
+    (m ∙ sym (length-replicate {A = ℕ} n 8))
+
+-- a run of which none are: zeros
+pub put-hidden : (at n : ℕ) (s out later : List ℕ) → at + n ≤ length s → at + n ≤ length out
+    → later ≡ replicate (length (take (at + n - at) (drop at out))) 0
+    → take at out ++ (later ++ drop (at + n - at) (drop at out)) ≡ putAt at (replicate n 0) s out
+put-hidden at n s out later hs ho e =
+    zeros-lent at n out ho later e
+    ∙ put-over at (replicate n 0) s out (replicate n 0) (masked-none n (drop at s) (rw length-drop (omega arith))) refl
 
 -- what a mask puts over a lent part that reaches to the end, it puts from the part's offset on
 pub put-rest : (at : ℕ) (ks s out later : List ℕ) → at ≤ length out

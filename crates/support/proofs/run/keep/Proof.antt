@@ -1,76 +1,58 @@
--- `support::run::keep` meets its contract. The loop's invariant: the first `i` bytes are put, whole, and the output is as long as it was.
--- The measure is what is left of `n`. Assumes nothing.
-use Prim.Native.Nat.{_+_, _-_, _≤_}
+-- `support::run::keep` meets its contract: the bytes copied are those that the mask keeps whole. Assumes nothing.
 use denote.Ref.{now}
-use mathlib.Core.Path.{_≡_, refl, sym, _∙_}
-use native.Mathlib.Nat.{mod-eq-of-lt}
 use native.Mathlib.Omega.{arith}
-use lib.ListN.{length, getD, replicate, length-set}
-use Rattle.support.specs.Put.{putAt}
-use Rattle.support.proofs.Laws.Put.{put-none, put-more}
+use borrow.Author.Needs.{needs}
+use Rattle.support.proofs.Laws.Put.{put-kept}
 use Rattle.support.proofs.run.keep.Statement.{statement}
 use Rattle.support.proofs.run.keep.Tie as tie
 
-abbrev Inv-loop : tie.InvT-loop
-Inv-loop s out₀ at n i₀ out i = (i ≤ n) × (length out ≡ length out₀) × (out ≡ putAt at (replicate i 8) s out₀)
+add-copy : tie.Need-add-copy
+add-copy c = search needs
 
-abbrev μ-loop : tie.MeasureT-loop
-μ-loop s out₀ at n i₀ out i = n - i
+sub-copy : tie.Need-sub-copy
+sub-copy c = search needs
 
-loop-holds : tie.Need-loop-holds Inv-loop μ-loop
-loop-holds c = (omega arith, refl, put-none (c .args .at) (now (c .args .s)) (now (c .args .out)))
+part-copy-start : tie.Need-part-copy-start
+part-copy-start c = search needs
 
-add-out : tie.Need-add-out Inv-loop μ-loop
-add-out c = omega arith
+part-copy-end : tie.Need-part-copy-end
+part-copy-end c = search needs
 
-shared-slice-read-out : tie.Need-shared-slice-read-out Inv-loop μ-loop
-shared-slice-read-out c = omega arith
+add-copy-2 : tie.Need-add-copy-2
+add-copy-2 c = search needs
 
-add-out-2 : tie.Need-add-out-2 Inv-loop μ-loop
-add-out-2 c = omega arith
+sub-copy-2 : tie.Need-sub-copy-2
+sub-copy-2 c = search needs
 
-slice-write-out : tie.Need-slice-write-out Inv-loop μ-loop
-slice-write-out c = omega arith
+part-copy-start-2 : tie.Need-part-copy-start-2
+part-copy-start-2 c = search needs
 
-add-i : tie.Need-add-i Inv-loop μ-loop
-add-i c = omega arith
+part-copy-end-2 : tie.Need-part-copy-end-2
+part-copy-end-2 c = search needs
 
-loop-less : tie.Need-loop-less Inv-loop μ-loop
-loop-less c = omega arith
+copy-requires : tie.Need-copy-requires
+copy-requires c κs = search needs
 
-loop-again : tie.Need-loop-again Inv-loop μ-loop
-loop-again c =
-    let a = c .before .before .before .args in
-    let l = c .before .before .loop in
-    let byte = getD (now (a .s)) (a .at + l .i) 0 in (
-      omega arith,
-      length-set (l .out) (a .at + l .i) byte ∙ l .inv .1,
-      put-more 8 (a .at) (l .i) (now (a .s)) (now (a .out)) (l .out) byte (l .inv .2) (omega arith) (omega arith) (omega arith)
-          (sym (mod-eq-of-lt (c .shared-slice-known .given (a .at + l .i) .fits))),
-    )
+same-length : tie.Need-same-length
+same-length c = search needs
 
-same-length : tie.Need-same-length Inv-loop μ-loop
-same-length c = c .before .loop .inv .1
-
-returns : tie.Need-returns Inv-loop μ-loop
+returns : tie.Need-returns
 returns c =
-    let l = c .before .loop in
-    let e : l .i ≡ c .before .before .args .n = omega arith in
-    rw (← e) (l .inv .2)
+    let a = c .before .before .before .before .before .before .before .args in
+    put-kept (a .at) (a .n) (now (a .s)) (now (a .out)) (c .before .before .copy .last .1 .0) (λ i. c .before .before .before .before .before .before .shared-slice-known .given i .fits) (omega arith) (omega arith) (c .before .before .copy .ensures)
 
 pub keep-spec : {M : Type 1} → statement M
 keep-spec =
     tie.close
     (tie.spec
-    Inv-loop
-    μ-loop
-    loop-holds
-    add-out
-    shared-slice-read-out
-    add-out-2
-    slice-write-out
-    add-i
-    loop-less
-    loop-again
+    add-copy
+    sub-copy
+    part-copy-start
+    part-copy-end
+    add-copy-2
+    sub-copy-2
+    part-copy-start-2
+    part-copy-end-2
+    copy-requires
     same-length
     returns)

@@ -8,7 +8,7 @@ use lib.ListN.{length}
 use Rattle.octets.specs.Number.{toLe}
 use Rattle.writing.specs.Fixed.{propertiesHead}
 use Rattle.octets.proofs.Laws.Number.{length-toLe}
-use Rattle.writing.proofs.Laws.Over.{over-rest, written-next, written-none}
+use Rattle.octets.proofs.Laws.Over.{written-copied, written-next, written-none}
 use Rattle.writing.proofs.fixed.write_properties_head.Statement.{statement}
 use Rattle.writing.proofs.fixed.write_properties_head.Tie as tie
 
@@ -24,20 +24,20 @@ write-u8-requires-2 c κs = search needs
 write-u16-requires : tie.Need-write-u16-requires
 write-u16-requires c κs = search needs
 
-slice-aggregate-write-part : tie.Need-slice-aggregate-write-part
-slice-aggregate-write-part c = search needs
+slice-aggregate-copy : tie.Need-slice-aggregate-copy
+slice-aggregate-copy c = search needs
 
-sub-write-part : tie.Need-sub-write-part
-sub-write-part c = search needs
+sub-copy : tie.Need-sub-copy
+sub-copy c = search needs
 
-part-write-part-start : tie.Need-part-write-part-start
-part-write-part-start c = search needs
+part-copy-start : tie.Need-part-copy-start
+part-copy-start c = search needs
 
-part-write-part-end : tie.Need-part-write-part-end
-part-write-part-end c = search needs
+part-copy-end : tie.Need-part-copy-end
+part-copy-end c = search needs
 
-write-part-requires : tie.Need-write-part-requires
-write-part-requires c κs = search needs
+copy-requires : tie.Need-copy-requires
+copy-requires c κs = search needs
 
 write-u32-requires : tie.Need-write-u32-requires
 write-u32-requires c κs = search needs
@@ -66,8 +66,8 @@ returns c =
     let w1 = written-next 0 1 (toLe 1 (f .flags)) w0 refl (length-toLe 1 (f .flags)) (c1 .write-u8 .ensures) in
     let w2 = written-next 1 1 (toLe 1 (f .«label_length» .0)) w1 refl (length-toLe 1 (f .«label_length» .0)) (c2 .write-u82 .ensures) in
     let w3 = written-next 2 2 (toLe 2 (f .«message_class»)) w2 refl (length-toLe 2 (f .«message_class»)) (c3 .write-u16 .ensures) in
-    let w4 = written-next 4 20 id w3 refl twenty (over-rest 4 id (c3 .write-u16 .last .0) (c4 .write-part .last .1 .0) (omega (arith, c3)) (c4 .write-part .ensures)) in
-    let w5 = written-next 24 4 (toLe 4 (f .«body_type»)) w4 refl (length-toLe 4 (f .«body_type»)) (c5 .write-u32 .ensures) in
+    let w4 = written-copied 4 id (c4 .copy .last .1 .0) w3 refl (omega (arith, start)) (c4 .copy .ensures) in
+    let w5 = written-next 24 4 (toLe 4 (f .«body_type»)) w4 (omega arith) (length-toLe 4 (f .«body_type»)) (c5 .write-u32 .ensures) in
     let w6 = written-next 28 4 (toLe 4 (a .application-tag)) w5 refl (length-toLe 4 (a .application-tag)) (c6 .write-u322 .ensures) in
     simp append-assoc at (w6 .bytes)
 
@@ -79,11 +79,11 @@ write-properties-head-spec =
     cast-write-u8
     write-u8-requires-2
     write-u16-requires
-    slice-aggregate-write-part
-    sub-write-part
-    part-write-part-start
-    part-write-part-end
-    write-part-requires
+    slice-aggregate-copy
+    sub-copy
+    part-copy-start
+    part-copy-end
+    copy-requires
     write-u32-requires
     write-u32-requires-2
     same-length

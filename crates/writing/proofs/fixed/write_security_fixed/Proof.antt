@@ -7,7 +7,7 @@ use borrow.Author.Needs.{needs}
 use Rattle.octets.specs.Number.{toLe}
 use Rattle.writing.specs.Fixed.{securityRow}
 use Rattle.octets.proofs.Laws.Number.{length-toLe}
-use Rattle.writing.proofs.Laws.Over.{written-next, written-none}
+use Rattle.octets.proofs.Laws.Over.{written-next, written-none}
 use Rattle.writing.proofs.fixed.write_security_fixed.Statement.{statement}
 use Rattle.writing.proofs.fixed.write_security_fixed.Tie as tie
 

@@ -8,7 +8,7 @@ use borrow.Author.Needs.{needs}
 use lib.ListN.{length-set}
 use Rattle.octets.specs.Over.{overAt}
 use Rattle.writing.proofs.Laws.Bytes.{two-bytes}
-use Rattle.writing.proofs.Laws.Over.{over-one, over-more}
+use Rattle.octets.proofs.Laws.Over.{over-one, over-more}
 use Rattle.writing.proofs.fixed.write_u16.Statement.{statement}
 use Rattle.writing.proofs.fixed.write_u16.Tie as tie
 

@@ -8,7 +8,7 @@ use borrow.Author.Needs.{needs}
 use Rattle.octets.specs.Number.{toLe}
 use Rattle.octets.specs.Over.{overAt}
 use Rattle.writing.proofs.Laws.Bytes.{four-bytes}
-use Rattle.writing.proofs.Laws.Over.{over-append}
+use Rattle.octets.proofs.Laws.Over.{over-append}
 use Rattle.writing.proofs.fixed.write_u32.Statement.{statement}
 use Rattle.writing.proofs.fixed.write_u32.Tie as tie
 

@@ -7,7 +7,7 @@ use native.Mathlib.Omega.{arith}
 use borrow.Author.Needs.{needs}
 use Rattle.octets.specs.Over.{overAt}
 use Rattle.writing.proofs.Laws.Bytes.{byte}
-use Rattle.writing.proofs.Laws.Over.{over-one}
+use Rattle.octets.proofs.Laws.Over.{over-one}
 use Rattle.writing.proofs.fixed.write_u8.Statement.{statement}
 use Rattle.writing.proofs.fixed.write_u8.Tie as tie
 

@@ -12,7 +12,7 @@ use Rattle.octets.proofs.Laws.Part.{rest-drop}
 use Rattle.writing.specs.Given.{Given, given}
 use Rattle.octets.specs.Over.{over}
 use Rattle.writing.specs.Writing.{propertiesBytes, sectionBytes, securityBytes}
-use Rattle.writing.proofs.Laws.Over.{Written, written-length, written-rest}
+use Rattle.octets.proofs.Laws.Over.{Written, written-length, written-rest}
 use Rattle.writing.proofs.section.write_headers.Statement.{statement}
 use Rattle.writing.proofs.section.write_headers.Tie as tie
 

@@ -5,13 +5,13 @@ use mathlib.Core.Path.{_≡_, refl, sym, ap, _∙_}
 use mathlib.Core.List.{List, [], _++_}
 use native.Mathlib.Omega.{arith}
 use borrow.Author.Needs.{needs}
-use lib.ListN.{length, replicate, length-append, length-replicate}
-use Rattle.octets.specs.Padding.{padded}
+use lib.ListN.{length, length-append}
+use Rattle.octets.specs.Padding.{padded, padding}
 use Rattle.writing.specs.Fixed.{PropertiesSized, propertiesTail}
 use Rattle.writing.specs.Given.{given}
 use Rattle.octets.specs.Over.{over}
 use Rattle.writing.proofs.Laws.Header.{length-propertiesHead, length-propertiesTail, properties-bytes, properties-sized}
-use Rattle.writing.proofs.Laws.Over.{written-first, written-next, written-rest}
+use Rattle.octets.proofs.Laws.Over.{written-first, written-rest, written-zeros}
 use Rattle.writing.proofs.section.write_properties.Statement.{statement}
 use Rattle.writing.proofs.section.write_properties.Tie as tie
 
@@ -72,9 +72,22 @@ write-properties-parts-requires : tie.Need-write-properties-parts-requires
 unfolding padded
 write-properties-parts-requires c κs = omega (arith, c .before .before .before .before .before .before .before .before .before .before .before .before .before .before .before .pre)
 
-write-zeros-requires : tie.Need-write-zeros-requires
+add-zero : tie.Need-add-zero
+unfolding padding
+add-zero c = omega (arith, c .before .before .before .before .before .before .before .before .before .before .before .before .padding .ensures)
+
+sub-zero : tie.Need-sub-zero
+sub-zero c = search needs
+
+part-zero-start : tie.Need-part-zero-start
+part-zero-start c = search needs
+
+part-zero-end : tie.Need-part-zero-end
 unfolding padded
-write-zeros-requires c κs = omega (arith, c .before .before .before .before .before .before .before .before .before .before .before .before .before .padding .ensures, c .before .before .before .before .before .before .before .before .before .before .before .before .before .before .before .before .before .before .before .pre)
+part-zero-end c = omega (arith, c .before .before .before .before .before .before .before .before .before .before .before .before .padding .ensures, c .before .before .before .before .before .before .before .before .before .before .before .before .before .before .before .before .before .before .pre)
+
+zero-requires : tie.Need-zero-requires
+zero-requires c κs = search needs
 
 same-length : tie.Need-same-length
 same-length c = search needs
@@ -104,7 +117,7 @@ returns c d k s c' p =
     let w1 = written-first (c1 .write-properties-head .ensures) in
     let w2 = written-rest 32 24 (propertiesTail f) (c2 .write-properties-tail .last .1 .0) w1 (sym l1) (length-propertiesTail f) (omega arith) (c2 .write-properties-tail .ensures) in
     let w3 = written-rest 56 (length label + length extension + length body) (label ++ (extension ++ body)) (c3 .write-properties-parts .last .1 .1 .1 .0) w2 refl parts (omega arith) (c3 .write-properties-parts .ensures) in
-    let w4 = written-next (56 + length label + length extension + length body) zeros (replicate zeros 0) w3 (omega arith) (length-replicate zeros 0) (c4 .write-zeros .ensures) in
+    let w4 = written-zeros (56 + length label + length extension + length body) zeros (c4 .zero .last .0) w3 (omega arith) (omega (arith, h, pad .padding .ensures)) (c4 .zero .ensures) in
     w4 .bytes ∙ ap (λ (bs : List ℕ). over bs (now (a .out))) (properties-bytes g f zeros twenty (made .properties-given .ensures (a .correlation-id) d k s c' p) (pad .padding .ensures))
 
 pub write-properties-spec : {M : Type 1} → statement M
@@ -125,6 +138,10 @@ write-properties-spec =
     part-write-properties-parts-start
     part-write-properties-parts-end
     write-properties-parts-requires
-    write-zeros-requires
+    add-zero
+    sub-zero
+    part-zero-start
+    part-zero-end
+    zero-requires
     same-length
     returns)

@@ -7,39 +7,39 @@ use native.Mathlib.Omega.{arith}
 use borrow.Author.Needs.{needs}
 use lib.ListN.{length}
 use Rattle.octets.specs.Over.{over}
-use Rattle.writing.proofs.Laws.Over.{written-first, written-rest}
+use Rattle.octets.proofs.Laws.Over.{copied-fits, written-copied, written-first}
 use Rattle.writing.proofs.section.write_properties_parts.Statement.{statement}
 use Rattle.writing.proofs.section.write_properties_parts.Tie as tie
 
 add-body-at : tie.Need-add-body-at
 add-body-at c = search needs
 
-write-part-requires : tie.Need-write-part-requires
-write-part-requires c κs = search needs
+copy-requires : tie.Need-copy-requires
+copy-requires c κs = search needs
 
-sub-write-part : tie.Need-sub-write-part
-sub-write-part c = search needs
+sub-copy : tie.Need-sub-copy
+sub-copy c = search needs
 
-part-write-part-start : tie.Need-part-write-part-start
-part-write-part-start c = search needs
+part-copy-start : tie.Need-part-copy-start
+part-copy-start c = search needs
 
-part-write-part-end : tie.Need-part-write-part-end
-part-write-part-end c = search needs
+part-copy-end : tie.Need-part-copy-end
+part-copy-end c = search needs
 
-write-part-requires-2 : tie.Need-write-part-requires-2
-write-part-requires-2 c κs = search needs
+copy-requires-2 : tie.Need-copy-requires-2
+copy-requires-2 c κs = search needs
 
-sub-write-part-2 : tie.Need-sub-write-part-2
-sub-write-part-2 c = search needs
+sub-copy-2 : tie.Need-sub-copy-2
+sub-copy-2 c = search needs
 
-part-write-part-start-2 : tie.Need-part-write-part-start-2
-part-write-part-start-2 c = search needs
+part-copy-start-2 : tie.Need-part-copy-start-2
+part-copy-start-2 c = search needs
 
-part-write-part-end-2 : tie.Need-part-write-part-end-2
-part-write-part-end-2 c = search needs
+part-copy-end-2 : tie.Need-part-copy-end-2
+part-copy-end-2 c = search needs
 
-write-part-requires-3 : tie.Need-write-part-requires-3
-write-part-requires-3 c κs = search needs
+copy-requires-3 : tie.Need-copy-requires-3
+copy-requires-3 c κs = search needs
 
 same-length : tie.Need-same-length
 same-length c = search needs
@@ -55,24 +55,25 @@ returns c =
     let label = now (a .label) in
     let extension = now (a .extension) in
     let body = now (a .body) in
-    let w1 = written-first (c1 .write-part .ensures) in
-    let w2 = written-rest (length label) (length extension) extension (c2 .write-part2 .last .1 .0) w1 refl refl (omega (arith, h)) (c2 .write-part2 .ensures) in
-    let w3 = written-rest (length label + length extension) (length body) body (c3 .write-part3 .last .1 .0) w2 refl refl (omega (arith, h)) (c3 .write-part3 .ensures) in
-    w3 .bytes ∙ ap (λ (bs : List ℕ). over bs (now (a .out))) (append-assoc label extension body)
+    let out = now (a .out) in
+    let w1 = written-first (c1 .copy .ensures ∙ copied-fits label out (omega (arith, h))) in
+    let w2 = written-copied (length label) extension (c2 .copy2 .last .1 .0) w1 refl (omega (arith, h)) (c2 .copy2 .ensures) in
+    let w3 = written-copied (length label + length extension) body (c3 .copy3 .last .1 .0) w2 refl (omega (arith, h)) (c3 .copy3 .ensures) in
+    w3 .bytes ∙ ap (λ (bs : List ℕ). over bs out) (append-assoc label extension body)
 
 pub write-properties-parts-spec : {M : Type 1} → statement M
 write-properties-parts-spec =
     tie.close
     (tie.spec
     add-body-at
-    write-part-requires
-    sub-write-part
-    part-write-part-start
-    part-write-part-end
-    write-part-requires-2
-    sub-write-part-2
-    part-write-part-start-2
-    part-write-part-end-2
-    write-part-requires-3
+    copy-requires
+    sub-copy
+    part-copy-start
+    part-copy-end
+    copy-requires-2
+    sub-copy-2
+    part-copy-start-2
+    part-copy-end-2
+    copy-requires-3
     same-length
     returns)

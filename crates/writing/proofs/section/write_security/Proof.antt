@@ -10,7 +10,7 @@ use Rattle.writing.specs.Given.{given}
 use Rattle.octets.specs.Over.{over}
 use Rattle.writing.specs.Writing.{paddedPart, securityBytes}
 use Rattle.writing.proofs.Laws.Header.{length-securityRow, security-fixed, security-sized}
-use Rattle.writing.proofs.Laws.Over.{written-first, written-rest}
+use Rattle.octets.proofs.Laws.Over.{written-first, written-rest}
 use Rattle.writing.proofs.section.write_security.Statement.{statement}
 use Rattle.writing.proofs.section.write_security.Tie as tie
 

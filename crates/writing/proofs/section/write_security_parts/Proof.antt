@@ -11,7 +11,7 @@ use Rattle.octets.specs.Over.{over}
 use Rattle.writing.specs.Writing.{paddedPart}
 use Rattle.writing.proofs.Laws.Row.{length-paddedPart}
 use Rattle.writing.proofs.Laws.Header.{five}
-use Rattle.writing.proofs.Laws.Over.{written-first, written-rest}
+use Rattle.octets.proofs.Laws.Over.{written-first, written-rest}
 use Rattle.writing.proofs.section.write_security_parts.Statement.{statement}
 use Rattle.writing.proofs.section.write_security_parts.Tie as tie
 

@@ -6,9 +6,9 @@ use native.Mathlib.Nat.{add-assoc, zero-add}
 use native.Mathlib.Numerals.{add-one}
 use native.Mathlib.Omega.{arith}
 use lib.ListN.{length, getD, take, drop, set, replicate, length-append, length-drop, length-replicate, replicate-append-replicate, take-append-drop}
-use lib.Seq.{length-take-le, take-at, take-suc, drop-at, drop-drop, drop-length, set-split}
+use lib.Seq.{length-take-le, take-all, take-at, take-suc, drop-at, drop-drop, drop-length, set-split}
 use Rattle.octets.proofs.Laws.Part.{rest-drop}
-use Rattle.octets.specs.Over.{over, overAt}
+use Rattle.octets.specs.Over.{over, overAt, copied}
 
 -- a part written where the one before it ends: both are written
 pub over-append : (at : ℕ) (p q out : List ℕ) → at ≤ length out
@@ -52,14 +52,46 @@ over-part i part out e h hn =
     ∙ rw (add-one, take-suc part i 0) (over-start (take i part ++ (getD part i 0 ∷ [])) out)
 
 -- one zero more
-pub over-zeros : {now : List ℕ} (at i : ℕ) (out : List ℕ) → now ≡ overAt at (replicate i 0) out → at ≤ length out → at + i < length now
-    → set now (at + i) 0 ≡ overAt at (replicate (i + 1) 0) out
-over-zeros at i out e h hn =
-    over-more at (replicate i 0) out (at + i) 0 e (ap (λ (n : ℕ). at + n) (sym (length-replicate i 0))) h hn
-    ∙ rw (← replicate-append-replicate {A = ℕ} i 1 0)
+pub over-zeros : {now : List ℕ} (i : ℕ) (out : List ℕ) → now ≡ over (replicate i 0) out → i < length now
+    → set now i 0 ≡ over (replicate (i + 1) 0) out
+over-zeros i out e hn =
+    over-more 0 (replicate i 0) out i 0 (e ∙ sym (over-start (replicate i 0) out)) (omega (arith, length-replicate {A = ℕ} i 0)) (omega arith) hn
+    ∙ rw (← replicate-append-replicate {A = ℕ} i 1 0) (over-start (replicate i 0 ++ (0 ∷ [])) out)
+
+-- as many bytes as the output holds: they are what it then holds
+pub over-whole : (p out : List ℕ) → length p ≡ length out → over p out ≡ p
+unfolding over
+over-whole p out e = rw (e, drop-length, append-nil)
+
+-- a copy that the output has room for is all there
+pub copied-fits : (s out : List ℕ) → length s ≤ length out → copied s out ≡ over s out
+unfolding copied
+copied-fits s out h = rw (take-all (length out) s h)
+
+-- a lent part of n bytes from an offset: what it then holds is written from there on
+module _ (at n : ℕ) (out : List ℕ) (h : at + n ≤ length out) where
+  pub length-lent : length (take (at + n - at) (drop at out)) ≡ n
+  length-lent = length-take-le (at + n - at) (drop at out) (rw length-drop (omega arith)) ∙ (omega arith)
+
+  lent : (p later : List ℕ) → length p ≡ n → later ≡ p
+      → take at out ++ (later ++ drop (at + n - at) (drop at out)) ≡ overAt at p out
+  unfolding over overAt
+  lent p later l e =
+      let m : at + n - at ≡ length p = omega arith in
+      rw (e, m)
+
+  pub copied-lent : (p later : List ℕ) → length p ≡ n → later ≡ copied p (take (at + n - at) (drop at out))
+      → take at out ++ (later ++ drop (at + n - at) (drop at out)) ≡ overAt at p out
+  copied-lent p later l e =
+      let part = take (at + n - at) (drop at out) in
+      lent p later l (e ∙ copied-fits p part (omega (arith, length-lent)) ∙ over-whole p part (l ∙ sym length-lent))
+
+  pub zeros-lent : (later : List ℕ) → later ≡ replicate (length (take (at + n - at) (drop at out))) 0
+      → take at out ++ (later ++ drop (at + n - at) (drop at out)) ≡ overAt at (replicate n 0) out
+  zeros-lent later e = lent (replicate n 0) later (length-replicate n 0) (e ∙ ap (λ (k : ℕ). replicate k 0) length-lent)
 
 -- what is written over a lent part that reaches to the end is written from the part's offset on
-pub over-rest : (at : ℕ) (p out later : List ℕ) → at ≤ length out
+over-rest : (at : ℕ) (p out later : List ℕ) → at ≤ length out
     → later ≡ over p (take (length out - at) (drop at out))
     → take at out ++ (later ++ drop (length out - at) (drop at out)) ≡ overAt at p out
 unfolding overAt
@@ -103,3 +135,20 @@ pub written-rest : {p out : List ℕ} {end : ℕ} {now : List ℕ} (at n : ℕ) 
     → Written (p ++ q) out (at + n) (take at now ++ (later ++ drop (length now - at) (drop at now)))
 written-rest {now = now} at n q later w a l h e =
     written-next at n q w a l (over-rest at q now later (omega (arith, written-length w (omega arith))) e)
+
+-- a copy that there is room for
+pub written-copied : {p out : List ℕ} {end : ℕ} {now : List ℕ} (at : ℕ) (q later : List ℕ) → Written p out end now
+    → at ≡ end → at + length q ≤ length out → later ≡ copied q (take (length now - at) (drop at now))
+    → Written (p ++ q) out (at + length q) (take at now ++ (later ++ drop (length now - at) (drop at now)))
+written-copied {now = now} at q later w a h e =
+    let l = written-length w (omega arith) in
+    written-rest at (length q) q later w a refl (omega arith)
+    (e ∙ copied-fits q (take (length now - at) (drop at now)) (rw (rest-drop, length-drop) (omega arith)))
+
+-- zeros through a lent part of their number
+pub written-zeros : {p out : List ℕ} {end : ℕ} {now : List ℕ} (at n : ℕ) (later : List ℕ) → Written p out end now
+    → at ≡ end → at + n ≤ length out → later ≡ replicate (length (take (at + n - at) (drop at now))) 0
+    → Written (p ++ replicate n 0) out (at + n) (take at now ++ (later ++ drop (at + n - at) (drop at now)))
+written-zeros {now = now} at n later w a h e =
+    written-next at n (replicate n 0) w a (length-replicate n 0)
+    (zeros-lent at n now (omega (arith, written-length w (omega arith))) later e)

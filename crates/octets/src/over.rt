@@ -1,0 +1,32 @@
+// Bytes written over a lent output. Plain byte loops, so that they become memory moves and fills.
+ghost use mathlib.Core.Path.{_≡_};
+ghost use lib.ListN.{length, replicate};
+ghost use Rattle.octets.specs.Over.{copied};
+
+// Over the output's first bytes, as many as both hold.
+pub fn copy(s: &[u8], out: &mut [u8])
+    ensures { λ _. ⌜ now (out .exit) ≡ copied (now (s .entry)) (now (out .entry)) ⌝ }
+{
+    let n = if s.len() < out.len() {
+        s.len()
+    } else {
+        out.len()
+    };
+    let mut i = 0;
+    while i < n {
+        out[i] = s[i];
+        i += 1;
+    }
+}
+
+// Over the whole output.
+pub fn zero(out: &mut [u8])
+    ensures { λ _. ⌜ now (out .exit) ≡ replicate (length (now (out .entry))) 0 ⌝ }
+{
+    let n = out.len();
+    let mut i = 0;
+    while i < n {
+        out[i] = 0;
+        i += 1;
+    }
+}

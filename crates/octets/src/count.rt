@@ -3,9 +3,11 @@ ghost use mathlib.Core.Path.{_≡_};
 ghost use Prim.Native.Nat.{_*_};
 
 // A count of bytes, or an offset in bytes.
+#[repr(C)]
 pub struct Bytes(pub usize);
 
 // A count of 16-bit units.
+#[repr(C)]
 pub struct Units(pub u32);
 
 impl Units {

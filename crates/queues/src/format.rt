@@ -8,6 +8,7 @@ use crate::suffix::xactonly_passes;
 ghost use mathlib.Core.Path.{_≡_};
 ghost use Rattle.queues.specs.Format.{flags, pairPasses, queueFormat, suffix};
 
+#[repr(C)]
 pub struct QueueFormat {
     pub kind: u8,
     pub suffix_and_flags: u8,

@@ -18,8 +18,8 @@ ghost use lib.ListN.{length};
 ghost use Rattle.rules.specs.Reading.{read, securityAt, summarize};
 ghost use Rattle.rules.specs.Summary.{noSecurity, propertiesAt, sectionOf};
 
-// Where no SecurityHeader stands first.
-fn no_security() -> SecurityHeader
+// Where no SecurityHeader stands first: every number is 0.
+pub fn no_security() -> SecurityHeader
     ensures { λ r. ⌜ r ≡ noSecurity ⌝ }
 {
     let none = Part {

@@ -18,6 +18,7 @@ ghost use Rattle.rules.specs.Properties.{labelContents, propertiesLength
 ghost use Rattle.rules.specs.Refusal.{refusal, limit};
 
 // The judged fields of the 56 fixed bytes. Of Flags the low four bits: the four X bits are private.
+#[repr(C)]
 pub struct PropertiesFields {
     pub flags: u8,
     pub label_length: Units,
@@ -32,6 +33,7 @@ pub struct PropertiesFields {
 }
 
 // The three parts, and the section's length with the padding at its end.
+#[repr(C)]
 pub struct PropertiesParts {
     pub label: Part,
     pub extension: Part,

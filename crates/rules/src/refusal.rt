@@ -3,6 +3,7 @@ use octets::count::Bytes;
 ghost use mathlib.Core.Path.{_≡_};
 ghost use Rattle.rules.specs.Refusal.{refusal};
 
+#[repr(C)]
 pub struct Refusal {
     pub number: u32,
     pub place: Bytes,

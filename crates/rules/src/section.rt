@@ -9,12 +9,14 @@ use octets::count::Bytes;
 pub const LIMIT: usize = 4194304;
 
 // Where a part lies, in bytes, counted from the section's first byte.
+#[repr(C)]
 pub struct Part {
     pub start: Bytes,
     pub length: Bytes,
 }
 
 // 01's summary: every judged field, the parts and both verdicts. Label and provider name are read through their parts.
+#[repr(C)]
 pub struct Summary {
     pub security_first: bool,
     pub security: SecurityHeader,
@@ -30,6 +32,7 @@ pub enum Summarized {
 }
 
 // 01's full reading: the summary, and what else the section carries. Private parts are read through their parts.
+#[repr(C)]
 pub struct Section {
     pub summary: Summary,
     pub correlation_id: Part,

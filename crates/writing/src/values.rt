@@ -6,6 +6,7 @@ use rules::refusal::Refusal;
 pub type CorrelationId = [u8; 20];
 
 // The values of a full reading. The sizes come from the parts.
+#[repr(C)]
 pub struct SectionValues {
     pub security_first: bool,
     pub security_flags: u16,

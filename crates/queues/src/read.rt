@@ -7,25 +7,14 @@ use crate::steps::fixed_size;
 use crate::steps::format_steps;
 use crate::steps::refusal_of;
 use crate::steps::text_steps;
-use octets::count::Bytes;
+use rules::layout::part;
 use rules::refusal;
 use rules::refusal::Checked;
-use rules::section::Part;
 ghost use mathlib.Core.Path.{_≡_};
 ghost use Prim.Native.Nat.{_≤_};
 ghost use lib.ListN.{drop, length};
-ghost use Rattle.rules.specs.Security.{part};
 ghost use Rattle.queues.specs.Read.{afterSteps, formatOf, readImage, valueOf};
 ghost use Rattle.queues.specs.Steps.{valueSteps};
-
-fn part(start: usize, length: usize) -> Part
-    ensures { λ r. ⌜ r ≡ part start length ⌝ }
-{
-    Part {
-        start: Bytes(start),
-        length: Bytes(length),
-    }
-}
 
 // The value of a type, whose string is `text` bytes long.
 fn value_of(kind: u8, text: usize) -> Value

@@ -9,7 +9,6 @@ use Rattle.rules.specs.Reading.{summarize}
 use Rattle.rules.specs.declared.section.Part.{Part}
 use Rattle.rules.specs.declared.section.Summarized.{Summarized}
 use Rattle.rules.specs.declared.section.Summarized.the-variants.{Accepted, Refused}
-use Rattle.rules.specs.declared.section.Summary.{Summary}
 
 -- a MessagePropertiesHeader with these fields, all others 0, and what follows its fixed bytes
 unfoldable pub properties : (labelLength class size extension : ℕ) → List ℕ → List ℕ

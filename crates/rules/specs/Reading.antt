@@ -1,5 +1,5 @@
 -- 01, "Reading, step by step". The first step that fails gives the refusal; its place is the offset of the header being read.
-use Prim.Native.Nat.{ℕ, _*_}
+use Prim.Native.Nat.{ℕ}
 use mathlib.Core.Path.{_≡_}
 use mathlib.Core.Bool.{Bool, true, false, cond}
 use mathlib.Core.List.{List}

@@ -6,7 +6,7 @@ use lib.ListN.{length, drop}
 use lib.Dec.{ltb}
 use Rattle.rules.specs.Judged.{copyOf}
 use Rattle.rules.specs.Reading.{summarize}
-use Rattle.rules.specs.Refusal.{bytes, refusal}
+use Rattle.rules.specs.Refusal.{refusal}
 use Rattle.rules.specs.declared.section.Output.{Output}
 use Rattle.rules.specs.declared.section.Output.the-variants.{Written, Refused as Output·Refused}
 use Rattle.rules.specs.declared.section.Summarized.{Summarized}

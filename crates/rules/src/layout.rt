@@ -1,9 +1,9 @@
-// What both headers' layouts are made of.
+// What layouts are made of.
 use crate::section::Part;
 use octets::count::Bytes;
 use octets::padding::padding;
 ghost use mathlib.Core.Path.{_≡_};
-ghost use Prim.Native.Nat.{_+_, _≤_, _<_, _^_};
+ghost use Prim.Native.Nat.{_+_, _<_, _^_};
 ghost use Rattle.octets.specs.Padding.{padded};
 ghost use Rattle.rules.specs.Security.{part};
 
@@ -16,7 +16,7 @@ pub(crate) fn padded(size: usize) -> usize
     size + padding(Bytes(size)).0
 }
 
-pub(crate) fn part(start: usize, length: usize) -> Part
+pub fn part(start: usize, length: usize) -> Part
     ensures { λ r. ⌜ r ≡ part start length ⌝ }
 {
     Part {

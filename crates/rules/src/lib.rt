@@ -1,6 +1,6 @@
 // 01's rules on values, shared by reading and writing: layouts, steps and verdicts. Their definitions are in specs/.
 pub mod class;
-mod layout;
+pub mod layout;
 pub mod properties;
 pub mod refusal;
 pub mod section;

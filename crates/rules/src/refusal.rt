@@ -1,7 +1,5 @@
 // Refusals: 01's number, and the place, which is the offset of the header being read.
 use octets::count::Bytes;
-ghost use mathlib.Core.Path.{_≡_};
-ghost use Rattle.rules.specs.Refusal.{refusal};
 
 #[repr(C)]
 pub struct Refusal {

@@ -1,13 +1,10 @@
 -- The bytes of numbers.
-use Prim.Native.Nat.{ℕ, zero, suc, _+_, _*_, _/_, _%_, _<_}
-use mathlib.Core.Path.{_≡_, refl, sym, ap, _∙_}
-use mathlib.Core.List.{List, [], _∷_, _++_}
+use Prim.Native.Nat.{ℕ, _+_, _*_, _/_, _%_, _<_}
+use mathlib.Core.Path.{_≡_, sym, ap, _∙_}
+use mathlib.Core.List.{[], _∷_, _++_}
 use native.Mathlib.Nat.{mod-eq-of-lt, add-mul-mod-self-left}
 use native.Mathlib.Omega.{arith}
-use lib.ListN.{length, length-append, length-replicate}
 use Rattle.octets.specs.Number.{toLe}
-use Rattle.octets.specs.Padding.{padded}
-use Rattle.writing.specs.Writing.{paddedPart}
 
 -- a byte, two bytes
 pub byte : (n : ℕ) → n < 256 → n ∷ [] ≡ toLe 1 n

@@ -1,18 +1,18 @@
--- The bytes of both headers: how many they are, and that they are the rows of their fields with the parts behind them.
+-- The bytes of both headers are the rows of their fields with the parts behind them.
 use Prim.Native.Nat.{ℕ, _+_}
-use mathlib.Core.Path.{_≡_, refl, sym, ap, subst, _∙_}
+use mathlib.Core.Path.{_≡_, refl, sym, ap, subst}
 use mathlib.Core.List.{List, _++_, append-assoc}
 use native.Mathlib.Omega.{arith}
 use lib.ListN.{length, replicate, length-append}
 use Rattle.octets.specs.Number.{toLe}
-use Rattle.octets.specs.Padding.{padding, padded}
+use Rattle.octets.specs.Padding.{padding}
 use Rattle.rules.specs.declared.properties.PropertiesFields.{PropertiesFields}
 use Rattle.rules.specs.declared.security.SecurityFields.{SecurityFields}
 use Rattle.writing.specs.Fixed.{propertiesHead, propertiesTail, PropertiesSized, securityRow, SecuritySized}
 use Rattle.writing.specs.Given.{Given, propertiesGiven, securityGiven}
-use Rattle.writing.specs.Laid.{partsLength, PropertiesLaid, SecurityLaid}
-use Rattle.writing.specs.Writing.{paddedPart, propertiesBytes, propertiesFixed, securityBytes, securityFixed}
-use Rattle.writing.proofs.Laws.Row.{length-paddedPart}
+use Rattle.writing.specs.Laid.{PropertiesLaid, SecurityLaid}
+use Rattle.writing.specs.Writing.{paddedPart, propertiesBytes, propertiesFixed, securityFixed}
+use Rattle.writing.proofs.Laws.Row.{length-unpadded}
 
 pub five : (a b c d e : List ℕ) → (((a ++ b) ++ c) ++ d) ++ e ≡ a ++ (b ++ (c ++ (d ++ e)))
 five a b c d e = simp append-assoc
@@ -24,13 +24,6 @@ length-securityRow f = refl
 pub security-fixed : (g : Given) (f : SecurityFields) → f ≡ securityGiven g → securityRow f ≡ securityFixed g
 unfolding securityRow securityGiven securityFixed
 security-fixed g f e = ap securityRow e
-
-pub length-securityBytes : (g : Given)
-    → length (securityBytes g) ≡ 16 + partsLength (g .senderId) (g .encryptionKey) (g .signature) (g .senderCert) (g .providerInfo)
-unfolding securityBytes
-length-securityBytes g =
-    let n : length (securityFixed g) ≡ 16 = ap length (sym (security-fixed g (securityGiven g) refl)) ∙ length-securityRow (securityGiven g) in
-    simp (length-append, n, length-paddedPart) (omega arith)
 
 -- each number fits its bytes
 pub security-sized : (g : Given) (f : SecurityFields) (out : List ℕ) → f ≡ securityGiven g
@@ -68,21 +61,6 @@ properties-fixed : (g : Given)
     ≡ propertiesFixed g
 unfolding propertiesHead propertiesTail propertiesGiven propertiesFixed
 properties-fixed g = simp append-assoc
-
-length-unpadded : (g : Given) → length (g .correlationId) ≡ 20
-    → length (propertiesFixed g ++ (g .label ++ (g .extension ++ g .body)))
-    ≡ 56 + length (g .label) + length (g .extension) + length (g .body)
-length-unpadded g e =
-    let f = propertiesGiven g in
-    let n : length (propertiesFixed g) ≡ 56 =
-    ap length (sym (properties-fixed g))
-    ∙ simp (length-append, length-propertiesHead f (g .correlationId) (g .values .«application_tag») e, length-propertiesTail) in
-    simp (length-append, n) (omega arith)
-
-pub length-propertiesBytes : (g : Given) → length (g .correlationId) ≡ 20
-    → length (propertiesBytes g) ≡ padded 4 (56 + length (g .label) + length (g .extension) + length (g .body))
-unfolding propertiesBytes
-length-propertiesBytes g e = length-paddedPart _ ∙ ap (padded 4) (length-unpadded g e)
 
 -- the rows, the parts and the padding
 pub properties-bytes : (g : Given) (f : PropertiesFields) (zeros : ℕ) → length (g .correlationId) ≡ 20 → f ≡ propertiesGiven g

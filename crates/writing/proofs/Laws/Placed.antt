@@ -84,6 +84,10 @@ properties-placed true g n e =
     security-steps g (securitySteps (securityGiven g) 0) n (c .0) refl (c .1)
 properties-placed false g n e = (tt, cc)
 
+pub start-placed : (g : Given) (p : Bytes) → placeProperties g ≡ At p → p ≡ bytes (startOf (g .values .«security_first») g)
+unfolding placeProperties
+start-placed g p e = properties-placed (g .values .«security_first») g p e .1
+
 properties-steps : (first : Bool) (g : Given) (l : PropertiesLayout) (n : ℕ) → HeaderPlaced first g
     → length (g .label) % 2 ≡ 0 → propertiesSteps (propertiesGiven g) (startOf first g) ≡ l
     → afterPropertiesSteps g (startOf first g) l ≡ At (bytes n) → SectionPlaced first g n
@@ -100,7 +104,7 @@ properties-steps first g (Properties·Fits parts) n security even fits e =
     }
 properties-steps first g (Properties·Refused r) n security even fits e = absurd (refused≢ e)
 
-end-placed : (g : Given) (q : Placed) (n : ℕ) → placeProperties g ≡ q → placeEnd g q ≡ At (bytes n)
+pub end-placed : (g : Given) (q : Placed) (n : ℕ) → placeProperties g ≡ q → placeEnd g q ≡ At (bytes n)
     → SectionPlaced (g .values .«security_first») g n
 unfolding placeProperties placeEnd
 end-placed g (At p) n start e =

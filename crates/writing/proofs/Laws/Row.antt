@@ -1,6 +1,6 @@
 -- The bytes written as a row of pieces, and how long they are.
-use Prim.Native.Nat.{ℕ, _%_}
-use mathlib.Core.Path.{_≡_, refl, ap, _∙_}
+use Prim.Native.Nat.{ℕ, _+_, _%_}
+use mathlib.Core.Path.{_≡_, refl, sym, ap, _∙_}
 use mathlib.Core.Bool.{Bool, true, false, cond}
 use mathlib.Core.List.{List, [], _++_, append-assoc}
 use native.Mathlib.Omega.{arith}
@@ -83,9 +83,22 @@ pub length-propertiesFixed : (g : Given) → length (g .correlationId) ≡ 20 �
 unfolding propertiesFixed
 length-propertiesFixed g c = simp (length-append, length-toLe) (omega arith)
 
+-- with the parts behind them, and no padding
+pub length-unpadded : (g : Given) → length (g .correlationId) ≡ 20
+    → length (propertiesFixed g ++ (g .label ++ (g .extension ++ g .body)))
+    ≡ 56 + length (g .label) + length (g .extension) + length (g .body)
+length-unpadded g c = simp (length-append, length-propertiesFixed g c) (omega arith)
+
+-- as long as the fields say, where the label is a whole number of units
+pub length-given : (g : Given) → length (g .label) % 2 ≡ 0
+    → propertiesLength (propertiesGiven g) ≡ padded 4 (56 + length (g .label) + length (g .extension) + length (g .body))
+unfolding propertiesGiven propertiesLength
+length-given g even = ap (padded 4) (omega arith)
+
 pub length-propertiesBytes : (g : Given) → length (g .correlationId) ≡ 20 → length (g .label) % 2 ≡ 0
     → length (propertiesBytes g) ≡ propertiesLength (propertiesGiven g)
-unfolding propertiesBytes propertiesGiven propertiesLength
+unfolding propertiesBytes
 length-propertiesBytes g c even =
     length-paddedPart (propertiesFixed g ++ (g .label ++ (g .extension ++ g .body)))
-    ∙ ap (padded 4) (simp (length-append, length-propertiesFixed g c) (omega arith))
+    ∙ ap (padded 4) (length-unpadded g c)
+    ∙ sym (length-given g even)

@@ -10,7 +10,8 @@ use Rattle.writing.specs.Given.{Given, given}
 use Rattle.octets.specs.Over.{over}
 use Rattle.writing.specs.Writing.{answerAt, bytesAt, placeEnd, placeProperties, placeSection, sectionBytes, writeAnswer, writeBytes}
 use Rattle.writing.specs.declared.values.Placed.the-variants.{At}
-use Rattle.writing.proofs.Laws.Laid.{length-sectionBytes, placed-laid}
+use Rattle.writing.proofs.Laws.Laid.{length-section, section-laid}
+use Rattle.writing.proofs.Laws.Placed.{end-placed}
 use Rattle.writing.proofs.section.write_section.Statement.{statement}
 use Rattle.writing.proofs.section.write_section.Tie as tie
 
@@ -64,7 +65,7 @@ write-headers-requires : tie.Need-write-headers-requires
 write-headers-requires c κs =
     let at = c .before .before .before .before in
     let start = at .before .before .before .before .before .before .before .before .before .before .before .before .before .before .before .before in
-    placed-laid (section start) (at .before .before .before .before .start .given .0 .0) (at .length .given .0 .0) (now (start .args .out)) (started (at .before .before .before .before)) (ended at) (c .before .if1 .left)
+    section-laid (section start) (at .before .before .before .before .start .given .0 .0) (at .length .given .0 .0) (now (start .args .out)) (started (at .before .before .before .before)) (ended at) (c .before .if1 .left)
 
 returns-2 : tie.Need-returns-2
 unfolding writeAnswer writeBytes answerAt bytesAt placeSection placeEnd
@@ -96,7 +97,7 @@ returns-4 c =
     let g = section start in
     let e = placed at in
     let room = le-ltb (length (now (start .args .out))) (at .length .given .0 .0 .0) (c .before .before .before .before .if1 .left) in
-    let n = length-sectionBytes g (at .before .before .before .before .start .given .0 .0) (at .length .given .0 .0) (start .good .1 .0 .1 .0 .1) (started (at .before .before .before .before)) (ended at) in (
+    let n = length-section g (at .length .given .0 .0 .0) (start .good .1 .0 .1 .0 .1) (end-placed g (At (at .before .before .before .before .start .given .0 .0)) (at .length .given .0 .0 .0) (started (at .before .before .before .before)) (ended at)) in (
       rw (e, room),
       rw (e, room) (c .before .before .write-headers .ensures ∙ ap (λ (k : ℕ). sectionBytes g ++ drop k (now (start .args .out))) n),
     )

@@ -1,6 +1,6 @@
 // The support copy of a section.
-use crate::output::output_answer;
 use crate::output::UgbOutput;
+use crate::output::output_answer;
 use support::copy::support_copy;
 ghost use mathlib.Core.Path.{_≡_};
 ghost use Rattle.rules.specs.Support.{supportAnswer, supportBytes};

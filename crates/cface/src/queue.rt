@@ -1,6 +1,6 @@
 // Images of queue formats, read and written.
-use crate::output::output_answer;
 use crate::output::UgbOutput;
+use crate::output::output_answer;
 use crate::zero::no_part;
 use crate::zero::no_refusal;
 use queues::format::QueueFormat;

@@ -1,7 +1,8 @@
 // The section writer.
-use crate::output::output_answer;
 use crate::output::UgbOutput;
+use crate::output::output_answer;
 use writing::section::write_section;
+use writing::values::CorrelationId;
 use writing::values::SectionValues;
 ghost use mathlib.Core.Path.{_≡_};
 ghost use Rattle.writing.specs.Given.{given};
@@ -11,7 +12,7 @@ ghost use Rattle.cface.specs.Output.{outputAnswer};
 #[no_mangle]
 pub extern "C" fn ugb_write_section(
     values: SectionValues,
-    correlation_id: &[u8; 20],
+    correlation_id: &CorrelationId,
     sender_id: &[u8],
     encryption_key: &[u8],
     signature: &[u8],

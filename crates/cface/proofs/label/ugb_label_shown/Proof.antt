@@ -1,11 +1,8 @@
--- The answer of reading and the test on LabelLength pick the case.
+-- The answer of reading and the test on LabelLength pick the case of `labelAnswer`.
 use borrow.Author.Tests.{eq-eqb, ne-eqb}
-use mathlib.Core.List.{List}
-use Prim.Native.Nat.{ℕ}
-use Rattle.rules.specs.Reading.{labelOr, labelShown, summarize}
-use Rattle.rules.specs.Summary.{labelOf}
-use Rattle.cface.specs.Label.{bytesShown, labelAnswer, standInShown}
+use Rattle.cface.specs.Label.{labelAnswer}
 use borrow.Author.Needs.{needs}
+use Rattle.cface.proofs.Laws.Label.{answer-shown}
 use Rattle.cface.proofs.label.ugb_label_shown.Statement.{statement}
 use Rattle.cface.proofs.label.ugb_label_shown.Tie as tie
 
@@ -25,19 +22,19 @@ stand-in-shown-requires-2 : tie.Need-stand-in-shown-requires-2
 stand-in-shown-requires-2 c κs = search needs
 
 returns : tie.Need-returns
-unfolding labelAnswer bytesShown standInShown labelShown labelOr labelOf
-returns c = 
-    (simp (← c .before .before .before .before .before .before .before .summarize .ensures, c .before .before .before .before .before .m .given .1, eq-eqb _ _ (c .before .if1 .taken), c .stand-in-shown2 .ensures), λ (standIn : List ℕ). simp (← c .before .before .before .before .before .before .before .summarize .ensures, c .before .before .before .before .before .m .given .1, eq-eqb _ _ (c .before .if1 .taken), c .stand-in-shown2 .ensures))
+unfolding labelAnswer
+returns c =
+    answer-shown _ _ (simp (← c .before .before .before .before .before .before .before .summarize .ensures, c .before .before .before .before .before .m .given .1, eq-eqb _ _ (c .before .if1 .taken), c .stand-in-shown2 .ensures))
 
 returns-2 : tie.Need-returns-2
-unfolding labelAnswer bytesShown standInShown labelShown labelOr labelOf
-returns-2 c = 
-    (simp (← c .before .before .before .summarize .ensures, c .before .enum-told .given .1, c .stand-in-shown .ensures), λ (standIn : List ℕ). simp (← c .before .before .before .summarize .ensures, c .before .enum-told .given .1, c .stand-in-shown .ensures))
+unfolding labelAnswer
+returns-2 c =
+    answer-shown _ _ (simp (← c .before .before .before .summarize .ensures, c .before .enum-told .given .1, c .stand-in-shown .ensures))
 
 returns-3 : tie.Need-returns-3
-unfolding labelAnswer bytesShown standInShown labelShown labelOr labelOf
-returns-3 c = 
-    (simp (← c .before .before .before .before .before .before .summarize .ensures, c .before .before .before .before .m .given .1, ne-eqb _ _ (c .if1 .left)), λ (standIn : List ℕ). simp (← c .before .before .before .before .before .before .summarize .ensures, c .before .before .before .before .m .given .1, ne-eqb _ _ (c .if1 .left)))
+unfolding labelAnswer
+returns-3 c =
+    answer-shown _ _ (simp (← c .before .before .before .before .before .before .summarize .ensures, c .before .before .before .before .m .given .1, ne-eqb _ _ (c .if1 .left)))
 
 pub ugb-label-shown-spec : {M : Type 1} → statement M
 ugb-label-shown-spec =

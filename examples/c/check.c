@@ -1,0 +1,423 @@
+/* Calls every function of ugbariteyo.h on small inputs, 01's examples among them, and compares the answers; each member
+ * of each struct has a value of its own somewhere, so that a member at a wrong offset shows. Ends with the number of
+ * comparisons, or at the first that fails. */
+#include <stdio.h>
+#include <stdlib.h>
+#include <string.h>
+
+#include "ugbariteyo.h"
+
+#define SAME(found, wanted) same((size_t)(found), (size_t)(wanted), #found, __LINE__)
+
+static unsigned compared;
+
+static void same(size_t found, size_t wanted, const char *what, int line)
+{
+    compared++;
+    if (found == wanted)
+        return;
+    fprintf(stderr, "line %d: %s is %zu, not %zu\n", line, what, found, wanted);
+    exit(1);
+}
+
+/* ---- what most checks use */
+
+static const uint8_t no_bytes[1];
+static const uint8_t correlation_id[20] = {1, 2, 3, 4, 5, 6, 7, 8, 9, 10, 11, 12, 13, 14, 15, 16, 17, 18, 19, 20};
+static uint8_t input[UGB_LIMIT];
+static uint8_t out[1024];
+
+static void put(size_t at, unsigned width, uint32_t number)
+{
+    for (unsigned i = 0; i < width; i++)
+        input[at + i] = (uint8_t)(number >> (8 * i));
+}
+
+/* A MessagePropertiesHeader at p, with that label and no other part. */
+static void put_properties(size_t p, uint8_t units, uint16_t class)
+{
+    memset(input + p, 0, 1024);
+    put(p + 1, 1, units);
+    put(p + 2, 2, class);
+    for (unsigned i = 0; i + 1 < units; i++)
+        put(p + 56 + 2 * i, 2, 'a');
+}
+
+static void pattern(void)
+{
+    memset(out, 0xA5, sizeof out);
+}
+
+/* Nothing of the output from there on was written. */
+static void untouched_from(size_t at)
+{
+    for (size_t i = at; i < sizeof out; i++)
+        SAME(out[i], 0xA5);
+}
+
+static void same_refusal(ugb_refusal found, uint32_t number, size_t place)
+{
+    SAME(found.number, number);
+    SAME(found.place, place);
+}
+
+static void same_part(ugb_part found, size_t start, size_t length)
+{
+    SAME(found.start, start);
+    SAME(found.length, length);
+}
+
+/* Refused: the output is as it was. */
+static void refused(ugb_output found, uint32_t number, size_t place)
+{
+    same_refusal(found.refusal, number, place);
+    SAME(found.length, 0);
+    untouched_from(0);
+}
+
+/* Written: the bytes behind it are as they were. */
+static void written(ugb_output found, size_t length)
+{
+    same_refusal(found.refusal, UGB_ACCEPTED, 0);
+    SAME(found.length, length);
+    untouched_from(length);
+}
+
+/* ---- a section that has everything, written and read back */
+
+static const ugb_section_values values = {
+    .security_first = true,
+    .security_flags = 0xF0A1, /* ST 1, EB, DP, and X bits */
+    .flags = 0xF6,            /* PR, NA, and X bits */
+    .message_class = 0x8009,
+    .body_type = 0x01020304,
+    .application_tag = 0x05060708,
+    .allocation_body_size = 77,
+    .privacy_level = 3,
+    .hash_algorithm = 0x800C,
+    .encryption_algorithm = 0x6610,
+};
+
+/* An identity with no sub-authority, and a provider of type 0x0B0C0D0E named "p". */
+static const uint8_t identity[8] = {1, 0, 0, 0, 0, 0, 0, 5};
+static const uint8_t key[3] = {0x31, 0x32, 0x33};
+static const uint8_t signature[5] = {0x41, 0x42, 0x43, 0x44, 0x45};
+static const uint8_t certificate[6] = {0x51, 0x52, 0x53, 0x54, 0x55, 0x56};
+static const uint8_t provider[8] = {0x0E, 0x0D, 0x0C, 0x0B, 'p', 0, 0, 0};
+static const uint8_t label[6] = {'h', 0, 'i', 0, 0, 0};
+static const uint8_t extension[9] = {0x61, 0x62, 0x63, 0x64, 0x65, 0x66, 0x67, 0x68, 0x69};
+static const uint8_t body[10] = {0x71, 0x72, 0x73, 0x74, 0x75, 0x76, 0x77, 0x78, 0x79, 0x7A};
+
+/* Its SecurityHeader is 16 + 8 + 4 + 8 + 8 + 8 bytes long; behind it 56 + 6 + 9 + 10, padded. */
+enum { PROPERTIES_AT = 52, SECTION_LENGTH = 136 };
+
+static ugb_output write_whole(ugb_section_values v, size_t certificate_length, size_t room)
+{
+    return ugb_write_section(v, correlation_id, identity, sizeof identity, key, sizeof key, signature, sizeof signature,
+                             input, certificate_length, provider, sizeof provider, label, sizeof label, extension,
+                             sizeof extension, body, sizeof body, out, room);
+}
+
+static void check_security(ugb_security_header security)
+{
+    SAME(security.fields.flags, 0x0A1);
+    SAME(security.fields.sender_id_size, 8);
+    SAME(security.fields.encryption_key_size, 3);
+    SAME(security.fields.signature_size, 5);
+    SAME(security.fields.sender_cert_size, 6);
+    SAME(security.fields.provider_info_size, 8);
+    same_part(security.parts.sender_id, 16, 8);
+    same_part(security.parts.encryption_key, 24, 3);
+    same_part(security.parts.signature, 28, 5);
+    same_part(security.parts.sender_cert, 36, 6);
+    same_part(security.parts.provider_info, 44, 8);
+    SAME(security.parts.length, PROPERTIES_AT);
+    SAME(security.sid_revision, 1);
+    SAME(security.sid_sub_authority_count, 0);
+    SAME(security.provider_type, 0x0B0C0D0E);
+}
+
+static void check_summary(ugb_summary summary)
+{
+    SAME(summary.security_first, true);
+    check_security(summary.security);
+    SAME(summary.properties.flags, 6);
+    SAME(summary.properties.label_length, 3);
+    SAME(summary.properties.message_class, 0x8009);
+    SAME(summary.properties.body_type, 0x01020304);
+    SAME(summary.properties.message_size, 10);
+    SAME(summary.properties.allocation_body_size, 77);
+    SAME(summary.properties.privacy_level, 3);
+    SAME(summary.properties.hash_algorithm, 0x800C);
+    SAME(summary.properties.encryption_algorithm, 0x6610);
+    SAME(summary.properties.extension_size, 9);
+    same_part(summary.parts.label, PROPERTIES_AT + 56, 6);
+    same_part(summary.parts.extension, PROPERTIES_AT + 62, 9);
+    same_part(summary.parts.body, PROPERTIES_AT + 71, 10);
+    SAME(summary.parts.section_length, SECTION_LENGTH);
+    SAME(summary.authentication_fails, false);
+    SAME(summary.decryption_fails, false);
+}
+
+static void check_whole(void)
+{
+    static uint8_t section[SECTION_LENGTH];
+    memcpy(input, certificate, sizeof certificate);
+    pattern();
+    written(write_whole(values, sizeof certificate, sizeof out), SECTION_LENGTH);
+    memcpy(section, out, sizeof section);
+
+    ugb_summarized summarized = ugb_summarize(section, sizeof section, true);
+    same_refusal(summarized.refusal, UGB_ACCEPTED, 0);
+    check_summary(summarized.summary);
+    ugb_reading reading = ugb_read(section, sizeof section, true);
+    same_refusal(reading.refusal, UGB_ACCEPTED, 0);
+    check_summary(reading.section.summary);
+    same_part(reading.section.correlation_id, PROPERTIES_AT + 4, 20);
+    SAME(memcmp(section + PROPERTIES_AT + 4, correlation_id, 20), 0);
+    SAME(memcmp(section + 36, certificate, sizeof certificate), 0);
+    SAME(reading.section.application_tag, 0x05060708);
+
+    ugb_label shown = ugb_label_shown(section, sizeof section, true);
+    SAME(shown.stand_in, false);
+    same_part(shown.part, PROPERTIES_AT + 56, sizeof label);
+
+    pattern();
+    written(ugb_support_copy(section, sizeof section, true, out, sizeof out), SECTION_LENGTH);
+    SAME(memcmp(out + PROPERTIES_AT + 56, label, sizeof label), 0);
+    for (size_t i = 0; i < sizeof body; i++)
+        SAME(out[PROPERTIES_AT + 71 + i], 0);
+    SAME(ugb_same_summary(section, sizeof section, out, sizeof out, true), true);
+    out[PROPERTIES_AT + 57] = 1; /* a unit of the label */
+    SAME(ugb_same_summary(section, sizeof section, out, sizeof out, true), false);
+    pattern();
+    refused(ugb_support_copy(section, sizeof section, true, out, SECTION_LENGTH - 1), UGB_OUTPUT_SHORT, 0);
+    refused(ugb_support_copy(section, 15, true, out, sizeof out), UGB_INPUT_SHORT, 0);
+}
+
+/* The verdicts, each by itself. */
+static void check_verdicts(void)
+{
+    ugb_section_values v = values;
+    v.hash_algorithm = 0x8005;
+    pattern();
+    written(write_whole(v, sizeof certificate, sizeof out), SECTION_LENGTH);
+    ugb_summary summary = ugb_summarize(out, sizeof out, true).summary;
+    SAME(summary.authentication_fails, true);
+    SAME(summary.decryption_fails, false);
+    v = values;
+    v.encryption_algorithm = 0x6611;
+    pattern();
+    written(write_whole(v, sizeof certificate, sizeof out), SECTION_LENGTH);
+    summary = ugb_summarize(out, sizeof out, true).summary;
+    SAME(summary.authentication_fails, false);
+    SAME(summary.decryption_fails, true);
+}
+
+static void check_writer_refuses(void)
+{
+    ugb_section_values v = values;
+    pattern();
+    refused(write_whole(v, sizeof certificate, SECTION_LENGTH - 1), UGB_OUTPUT_SHORT, 0);
+    refused(write_whole(v, 65536, sizeof out), UGB_PART_TOO_LARGE, 0);
+    v.security_flags = 0x0083;
+    refused(write_whole(v, sizeof certificate, sizeof out), UGB_SENDER_KIND, 0);
+    v = values;
+    v.message_class = 0x8008;
+    refused(write_whole(v, sizeof certificate, sizeof out), UGB_CLASS, PROPERTIES_AT);
+    v = values;
+    v.allocation_body_size = sizeof body - 1;
+    refused(write_whole(v, sizeof certificate, sizeof out), UGB_ALLOCATION, PROPERTIES_AT);
+}
+
+/* ---- 01's examples */
+
+/* Of a refused reading nothing else is set. */
+static void reading_refused(size_t length, bool security_first, uint32_t number, size_t place)
+{
+    ugb_reading found = ugb_read(input, length, security_first);
+    ugb_summary m = found.section.summary;
+    same_refusal(found.refusal, number, place);
+    same_refusal(ugb_summarize(input, length, security_first).refusal, number, place);
+    SAME(m.security_first | m.authentication_fails | m.decryption_fails, 0);
+    SAME(m.security.fields.flags | m.security.fields.signature_size | m.security.parts.length, 0);
+    SAME(m.properties.message_class | m.properties.label_length | m.properties.message_size, 0);
+    same_part(m.parts.label, 0, 0);
+    same_part(m.parts.body, 0, 0);
+    SAME(m.parts.section_length | found.section.application_tag, 0);
+    same_part(found.section.correlation_id, 0, 0);
+    SAME(ugb_label_shown(input, length, security_first).stand_in, true);
+    SAME(ugb_same_summary(input, length, input, length, security_first), false);
+}
+
+static void length_is(size_t length, bool security_first, size_t wanted)
+{
+    ugb_summarized found = ugb_summarize(input, length, security_first);
+    same_refusal(found.refusal, UGB_ACCEPTED, 0);
+    SAME(found.summary.parts.section_length, wanted);
+}
+
+/* 1 to 6 */
+static void check_properties_examples(void)
+{
+    put_properties(0, 0, 0);
+    length_is(56, false, 56);
+    reading_refused(55, false, UGB_INPUT_SHORT, 0);
+    put_properties(0, 3, 0);
+    put(52, 4, 5);
+    put(32, 4, 2);
+    put(36, 4, 2);
+    ugb_summary m = ugb_summarize(input, 72, false).summary;
+    same_part(m.parts.label, 56, 6);
+    same_part(m.parts.extension, 62, 5);
+    same_part(m.parts.body, 67, 2);
+    length_is(72, false, 72);
+    reading_refused(71, false, UGB_INPUT_SHORT, 0);
+    put_properties(0, 250, 0);
+    length_is(556, false, 556);
+    put_properties(0, 251, 0x8008);
+    reading_refused(1024, false, UGB_LABEL_LENGTH, 0);
+    put_properties(0, 1, 0);
+    length_is(60, false, 60);
+    same_part(ugb_label_shown(input, 60, false).part, 56, 2);
+    put_properties(0, 0, 0x8008);
+    reading_refused(56, false, UGB_CLASS, 0);
+    put_properties(0, 0, 0x8009);
+    length_is(56, false, 56);
+    put(32, 4, 4194248);
+    put(36, 4, 4194248);
+    length_is(UGB_LIMIT, false, UGB_LIMIT);
+    put(32, 4, 4194249);
+    put(36, 4, 4194249);
+    reading_refused(56, false, UGB_ABOVE_THE_LIMIT, 0);
+}
+
+/* A SecurityHeader with these sizes and zero content, and a MessagePropertiesHeader behind its length. */
+static void put_security(uint16_t flags, const uint32_t sizes[5], size_t length)
+{
+    memset(input, 0, 1024);
+    put(0, 2, flags);
+    put(2, 2, sizes[0]);
+    put(4, 2, sizes[1]);
+    put(6, 2, sizes[2]);
+    put(8, 4, sizes[3]);
+    put(12, 4, sizes[4]);
+    put_properties(length, 0, 0);
+}
+
+/* 7 to 9 */
+static void check_security_examples(void)
+{
+    put_security(0x0080, (const uint32_t[5]){0, 1, 0, 2, 0}, 24);
+    ugb_security_parts parts = ugb_summarize(input, 80, true).summary.security.parts;
+    same_part(parts.encryption_key, 16, 1);
+    same_part(parts.sender_cert, 20, 2);
+    SAME(parts.length, 24);
+    length_is(80, true, 80);
+    reading_refused(79, true, UGB_INPUT_SHORT, 24);
+    put_security(0x00C2, (const uint32_t[5]){16, 0, 5, 0, 0}, 40);
+    same_part(ugb_summarize(input, 96, true).summary.security.parts.signature, 32, 5);
+    length_is(96, true, 96);
+    put(0, 2, 0x0042);
+    reading_refused(96, true, UGB_EMPTY_OR_DP_CLEAR, 0);
+    put_security(0x0080, (const uint32_t[5]){0, 0, 4, 0, 8}, 28);
+    put(24, 2, 'p');
+    same_part(ugb_summarize(input, 84, true).summary.security.parts.provider_info, 20, 8);
+    length_is(84, true, 84);
+    put(12, 4, 6);
+    reading_refused(84, true, UGB_PROVIDER, 0);
+}
+
+/* ---- queue formats */
+
+static void image_is(size_t length, ugb_queue_format format, ugb_part fixed, ugb_part text)
+{
+    ugb_image_read found = ugb_read_image(input, length);
+    same_refusal(found.refusal, UGB_ACCEPTED, 0);
+    SAME(found.format.kind, format.kind);
+    SAME(found.format.suffix_and_flags, format.suffix_and_flags);
+    same_part(found.fixed, fixed.start, fixed.length);
+    same_part(found.text, text.start, text.length);
+    pattern();
+    written(ugb_write_image(format, input + fixed.start, fixed.length, input + text.start, text.length, out, sizeof out),
+            length);
+    SAME(memcmp(out, input, length), 0);
+}
+
+static void image_refused(uint8_t kind, uint8_t byte, size_t length, uint32_t number)
+{
+    memset(input, 0, length);
+    input[0] = kind;
+    input[1] = byte;
+    ugb_image_read found = ugb_read_image(input, length);
+    same_refusal(found.refusal, number, 0);
+    SAME(found.format.kind | found.format.suffix_and_flags, 0);
+    same_part(found.fixed, 0, 0);
+    same_part(found.text, 0, 0);
+}
+
+static void check_images(void)
+{
+    const ugb_part none = {0, 0};
+    memcpy(input, (const uint8_t[4]){UGB_QUEUE_MACHINE, 0x81, 0, 0}, 4);
+    memset(input + 4, 0x5A, 16);
+    image_is(20, (ugb_queue_format){4, 0x81}, (ugb_part){4, 16}, none);
+    input[0] = UGB_QUEUE_CONNECTOR, input[1] = 0x84;
+    image_is(20, (ugb_queue_format){5, 0x84}, (ugb_part){4, 16}, none);
+    input[0] = UGB_QUEUE_DL, input[1] = 0;
+    put(20, 2, 'q'), put(22, 2, 0);
+    image_is(24, (ugb_queue_format){6, 0}, (ugb_part){4, 16}, (ugb_part){20, 4});
+    memcpy(input, (const uint8_t[8]){UGB_QUEUE_SUBQUEUE, 0x05, 0, 0, 'q', 0, 0, 0}, 8);
+    image_is(8, (ugb_queue_format){8, 0x05}, none, (ugb_part){4, 4});
+    memset(input, 0, 4);
+    image_is(4, (ugb_queue_format){0, 0}, none, none);
+
+    image_refused(0, 0, 3, UGB_INPUT_SHORT);
+    image_refused(9, 0, 4, UGB_QUEUE_TYPE);
+    image_refused(4, 0x00, 20, UGB_QUEUE_SUFFIX);
+    image_refused(3, 0x05, 8, UGB_QUEUE_SUFFIX);
+    image_refused(1, 0x82, 20, UGB_QUEUE_SUFFIX);
+    image_refused(1, 0x00, 19, UGB_QUEUE_VALUE);
+    image_refused(3, 0x00, 8, UGB_QUEUE_STRING);
+
+    pattern();
+    refused(ugb_write_image((ugb_queue_format){9, 0}, no_bytes, 0, no_bytes, 0, out, sizeof out), UGB_QUEUE_TYPE, 0);
+    refused(ugb_write_image((ugb_queue_format){1, 0}, identity, 8, no_bytes, 0, out, sizeof out), UGB_QUEUE_VALUE, 0);
+    refused(ugb_write_image((ugb_queue_format){3, 0}, no_bytes, 0, no_bytes, 1, out, sizeof out), UGB_QUEUE_STRING, 0);
+    refused(ugb_write_image((ugb_queue_format){3, 0}, no_bytes, 0, label, 6, out, 9), UGB_OUTPUT_SHORT, 0);
+}
+
+/* ---- no bytes at all, behind no pointer */
+
+static void check_null(void)
+{
+    const ugb_section_values zero = {0};
+    same_refusal(ugb_summarize(NULL, 0, false).refusal, UGB_INPUT_SHORT, 0);
+    same_refusal(ugb_read(NULL, 0, true).refusal, UGB_INPUT_SHORT, 0);
+    same_refusal(ugb_read_image(NULL, 0).refusal, UGB_INPUT_SHORT, 0);
+    SAME(ugb_label_shown(NULL, 0, false).stand_in, true);
+    SAME(ugb_same_summary(NULL, 0, NULL, 0, false), false);
+    pattern();
+    refused(ugb_support_copy(NULL, 0, false, out, sizeof out), UGB_INPUT_SHORT, 0);
+    refused(ugb_support_copy(NULL, 0, false, NULL, 0), UGB_INPUT_SHORT, 0);
+    refused(ugb_write_image((ugb_queue_format){0, 0}, NULL, 0, NULL, 0, NULL, 0), UGB_OUTPUT_SHORT, 0);
+    refused(ugb_write_section(zero, correlation_id, NULL, 0, NULL, 0, NULL, 0, NULL, 0, NULL, 0, NULL, 0, NULL, 0, NULL,
+                              0, NULL, 0),
+            UGB_OUTPUT_SHORT, 0);
+    written(ugb_write_section(zero, correlation_id, NULL, 0, NULL, 0, NULL, 0, NULL, 0, NULL, 0, NULL, 0, NULL, 0, NULL,
+                              0, out, sizeof out),
+            56);
+}
+
+int main(void)
+{
+    check_whole();
+    check_verdicts();
+    check_writer_refuses();
+    check_properties_examples();
+    check_security_examples();
+    check_images();
+    check_null();
+    printf("%u comparisons, all the same\n", compared);
+    return 0;
+}

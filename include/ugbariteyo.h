@@ -1,0 +1,254 @@
+/*
+ * Ugbariteyo for C: reads, judges, copies and writes the section of a message-queue packet (an optional SecurityHeader
+ * and a MessagePropertiesHeader), and the queue formats around it. "01" is the paper of exact rules that every function
+ * is proved to follow, on every input.
+ *
+ * Link target/staticlib/libcface.a, which `rt staticlib cface` writes (x86-64 Linux); it needs memcpy and memset, and
+ * nothing else.
+ *
+ * Every call answers, for every input, and ends. Nothing has to be checked beforehand but the pointers: each one is
+ * valid for the length beside it, for the length of the call, and an output overlaps none of the inputs. With a length
+ * of 0 any pointer will do, NULL included. Nothing is allocated, kept or shared: the caller owns every byte, any number
+ * of threads may call, and a part in an answer is a place in the caller's own input.
+ *
+ * An answer holds a refusal. Its number is 0 (UGB_ACCEPTED) where nothing is refused; else every other value of the
+ * answer is 0 or false, and no byte of the output was written. Bytes of an output behind what was written stay as they
+ * were. Unnamed bytes between the members of a struct hold anything: compare members, not whole structs.
+ */
+#ifndef UGBARITEYO_H
+#define UGBARITEYO_H
+
+#include <stdbool.h>
+#include <stddef.h>
+#include <stdint.h>
+
+#ifdef __cplusplus
+extern "C" {
+#endif
+
+/* 01: a section has at most so many bytes. */
+#define UGB_LIMIT 4194304
+
+/* The numbers of a refusal, in 01's words. */
+enum ugb_refusal_number {
+    UGB_ACCEPTED = 0,           /* nothing is refused */
+    UGB_INPUT_SHORT = 1,        /* input short: S1, S9, P1, P6; a queue format under 4 bytes */
+    UGB_SENDER_KIND = 2,        /* sender kind: S2 */
+    UGB_AU_OR_AS = 3,           /* AU or AS not zero: S3 */
+    UGB_EMPTY_OR_DP_CLEAR = 4,  /* empty, or DP clear: S4 */
+    UGB_CERTIFICATE_SIZE = 5,   /* certificate size: S5 */
+    UGB_IDENTITY = 6,           /* identity: S6, S10 */
+    UGB_PROVIDER = 7,           /* provider: S7, S11 */
+    UGB_ABOVE_THE_LIMIT = 8,    /* above the limit: S8, P5 */
+    UGB_LABEL_LENGTH = 9,       /* label length: P2; for the writer also a label of an odd number of bytes */
+    UGB_CLASS = 10,             /* class: P3 */
+    UGB_ALLOCATION = 11,        /* allocation: P4 */
+    UGB_LABEL = 12,             /* label: P7 */
+    UGB_OUTPUT_SHORT = 13,      /* output short */
+    UGB_PART_TOO_LARGE = 28,    /* key, signature or certificate above 65,535 bytes */
+    UGB_QUEUE_TYPE = 30,        /* queue format: type */
+    UGB_QUEUE_SUFFIX = 31,      /* queue format: suffix and flags with that type */
+    UGB_QUEUE_VALUE = 32,       /* queue format: the value's length */
+    UGB_QUEUE_STRING = 33       /* queue format: string */
+};
+
+typedef struct ugb_refusal {
+    uint32_t number; /* one of the numbers above */
+    size_t place;    /* offset of the header being read, or that would be written; 0 for 13, 28 and queue formats */
+} ugb_refusal;
+
+/* Where a part lies in the input that was read. */
+typedef struct ugb_part {
+    size_t start;  /* in bytes, from the input's first byte */
+    size_t length; /* in bytes */
+} ugb_part;
+
+/* ---- Reading a section */
+
+/* The judged fields of the SecurityHeader's 16 fixed bytes. */
+typedef struct ugb_security_fields {
+    uint32_t flags;             /* Flags, bits 0 to 11: ST 0 to 3, AU 4, EB 5, DE 6, DP 7, AS 8 to 11 */
+    size_t sender_id_size;      /* SenderIdSize, in bytes */
+    size_t encryption_key_size; /* EncryptionKeySize, in bytes */
+    size_t signature_size;      /* SignatureSize, in bytes */
+    size_t sender_cert_size;    /* SenderCertSize, in bytes */
+    size_t provider_info_size;  /* ProviderInfoSize, in bytes */
+} ugb_security_fields;
+
+/* The SecurityHeader's parts, without their padding. */
+typedef struct ugb_security_parts {
+    ugb_part sender_id;      /* identity */
+    ugb_part encryption_key; /* key */
+    ugb_part signature;      /* signature */
+    ugb_part sender_cert;    /* certificate */
+    ugb_part provider_info;  /* provider info: a 4-byte type, then the name */
+    size_t length;           /* the header's length in bytes, padding included: where the next header begins */
+} ugb_security_parts;
+
+/* What reading finds in a SecurityHeader; all zero where none stands first. */
+typedef struct ugb_security_header {
+    ugb_security_fields fields;      /* the fixed fields */
+    ugb_security_parts parts;        /* where the parts lie */
+    uint8_t sid_revision;            /* the identity's first byte for ST 1, else 0 */
+    uint8_t sid_sub_authority_count; /* the identity's second byte for ST 1, else 0 */
+    uint32_t provider_type;          /* the type at the front of the provider info, 0 where there is none */
+} ugb_security_header;
+
+/* The judged fields of the MessagePropertiesHeader's 56 fixed bytes. */
+typedef struct ugb_properties_fields {
+    uint8_t flags;                 /* Flags, low four bits: PA 0x01, PR 0x02, NA 0x04, NR 0x08 */
+    uint32_t label_length;         /* LabelLength, in 16-bit units, the null included */
+    uint16_t message_class;        /* MessageClass */
+    uint32_t body_type;            /* BodyType */
+    size_t message_size;           /* MessageSize, in bytes */
+    size_t allocation_body_size;   /* AllocationBodySize, in bytes */
+    uint32_t privacy_level;        /* PrivacyLevel */
+    uint32_t hash_algorithm;       /* HashAlgorithm */
+    uint32_t encryption_algorithm; /* EncryptionAlgorithm */
+    size_t extension_size;         /* ExtensionSize, in bytes */
+} ugb_properties_fields;
+
+/* The MessagePropertiesHeader's parts. */
+typedef struct ugb_properties_parts {
+    ugb_part label;        /* label: 16-bit units, little-endian, the null included */
+    ugb_part extension;    /* extension */
+    ugb_part body;         /* body: MessageSize bytes */
+    size_t section_length; /* the whole section's length in bytes, the padding at its end included */
+} ugb_properties_parts;
+
+/* 01's summary. Label and provider name are had through their parts. */
+typedef struct ugb_summary {
+    bool security_first;              /* whether a SecurityHeader stands first, as the caller said */
+    ugb_security_header security;     /* the SecurityHeader */
+    ugb_properties_fields properties; /* the MessagePropertiesHeader's fields */
+    ugb_properties_parts parts;       /* the MessagePropertiesHeader's parts */
+    bool authentication_fails;        /* 01's verdict; it refuses nothing */
+    bool decryption_fails;            /* 01's verdict; it refuses nothing */
+} ugb_summary;
+
+/* 01's full reading. Private parts are had through their parts. */
+typedef struct ugb_section {
+    ugb_summary summary;      /* the summary */
+    ugb_part correlation_id;  /* CorrelationID, 20 bytes */
+    uint32_t application_tag; /* ApplicationTag */
+} ugb_section;
+
+typedef struct ugb_summarized {
+    ugb_refusal refusal; /* 0, or 1 to 12 */
+    ugb_summary summary; /* the summary; all zero where refused */
+} ugb_summarized;
+
+typedef struct ugb_reading {
+    ugb_refusal refusal; /* 0, or 1 to 12 */
+    ugb_section section; /* the full reading; all zero where refused */
+} ugb_reading;
+
+/* The label for display: a place in the input, or the caller's own stand-in. */
+typedef struct ugb_label {
+    bool stand_in; /* whether to show the stand-in: LabelLength is 0, or reading is refused */
+    ugb_part part; /* else the label, null included; 0 and 0 where the stand-in is shown */
+} ugb_label;
+
+/* The summary of the section at the first of s_length bytes. Bytes behind the section are not read. */
+ugb_summarized ugb_summarize(const uint8_t *s, size_t s_length, bool security_first);
+
+/* The full reading of that section. Refused exactly as ugb_summarize is. */
+ugb_reading ugb_read(const uint8_t *s, size_t s_length, bool security_first);
+
+/* Whether both inputs are accepted, with the same summary, label and provider name by content: exactly when they agree
+ * in every judged bit, and exactly when their support copies are the same bytes. */
+bool ugb_same_summary(const uint8_t *a, size_t a_length, const uint8_t *b, size_t b_length, bool security_first);
+
+/* What to show as the label of that section. Never refused. */
+ugb_label ugb_label_shown(const uint8_t *s, size_t s_length, bool security_first);
+
+/* ---- Writing to a lent output, from its first byte on */
+
+typedef struct ugb_output {
+    ugb_refusal refusal; /* 0, or why nothing was written */
+    size_t length;       /* how many bytes were written; 0 where refused */
+} ugb_output;
+
+/* The support copy: the section with every private bit zero. Refused as ugb_summarize is, then with 13 where out_length
+ * is below the section's length. */
+ugb_output ugb_support_copy(const uint8_t *s, size_t s_length, bool security_first, uint8_t *out, size_t out_length);
+
+/* The values of a section. The sizes come from the parts. */
+typedef struct ugb_section_values {
+    bool security_first;           /* whether a SecurityHeader is written; without one its values and parts are ignored */
+    uint16_t security_flags;       /* its Flags, as in ugb_security_fields; X bits are written zero */
+    uint8_t flags;                 /* Flags, as in ugb_properties_fields; X bits are written zero */
+    uint16_t message_class;        /* MessageClass */
+    uint32_t body_type;            /* BodyType */
+    uint32_t application_tag;      /* ApplicationTag */
+    size_t allocation_body_size;   /* AllocationBodySize, in bytes */
+    uint32_t privacy_level;        /* PrivacyLevel */
+    uint32_t hash_algorithm;       /* HashAlgorithm */
+    uint32_t encryption_algorithm; /* EncryptionAlgorithm */
+} ugb_section_values;
+
+/* The section of these values and parts, padding and X bits zero. The label is 16-bit units with their null, or empty.
+ * Refused with 28, then 2 to 4 and 6 to 12 by the steps of reading, then 13. */
+ugb_output ugb_write_section(ugb_section_values values, const uint8_t correlation_id[20], /* CorrelationID, 20 bytes */
+                             const uint8_t *sender_id, size_t sender_id_length,           /* identity */
+                             const uint8_t *encryption_key, size_t encryption_key_length, /* key */
+                             const uint8_t *signature, size_t signature_length,           /* signature */
+                             const uint8_t *sender_cert, size_t sender_cert_length,       /* certificate */
+                             const uint8_t *provider_info, size_t provider_info_length,   /* type and name together */
+                             const uint8_t *label, size_t label_length,                   /* label, in bytes */
+                             const uint8_t *extension, size_t extension_length,           /* extension */
+                             const uint8_t *body, size_t body_length,                     /* body */
+                             uint8_t *out, size_t out_length);
+
+/* ---- Queue formats */
+
+/* The type of a queue format. */
+enum ugb_queue_type {
+    UGB_QUEUE_UNKNOWN = 0x00,   /* no value */
+    UGB_QUEUE_PUBLIC = 0x01,    /* a GUID, 16 bytes */
+    UGB_QUEUE_PRIVATE = 0x02,   /* an OBJECTID, 20 bytes */
+    UGB_QUEUE_DIRECT = 0x03,    /* a string */
+    UGB_QUEUE_MACHINE = 0x04,   /* a GUID, 16 bytes */
+    UGB_QUEUE_CONNECTOR = 0x05, /* a GUID, 16 bytes */
+    UGB_QUEUE_DL = 0x06,        /* a GUID and a string */
+    UGB_QUEUE_MULTICAST = 0x07, /* a MULTICAST_ID, 8 bytes */
+    UGB_QUEUE_SUBQUEUE = 0x08   /* a string */
+};
+
+/* The suffix type, the low nibble of suffix_and_flags. */
+enum ugb_queue_suffix {
+    UGB_SUFFIX_NONE = 0x00,
+    UGB_SUFFIX_JOURNAL = 0x01,
+    UGB_SUFFIX_DEADLETTER = 0x02,
+    UGB_SUFFIX_DEADXACT = 0x03,
+    UGB_SUFFIX_XACTONLY = 0x04,
+    UGB_SUFFIX_SUBQUEUE = 0x05
+};
+
+/* The flags, the high nibble of suffix_and_flags, in its place. */
+enum ugb_queue_flags { UGB_FLAG_NOT_SYSTEM = 0x00, UGB_FLAG_SYSTEM = 0x80 };
+
+typedef struct ugb_queue_format {
+    uint8_t kind;             /* the type */
+    uint8_t suffix_and_flags; /* the suffix type and the flags */
+} ugb_queue_format;
+
+typedef struct ugb_image_read {
+    ugb_refusal refusal;     /* 0, 1 or 30 to 33 */
+    ugb_queue_format format; /* type, suffix and flags; zero where refused */
+    ugb_part fixed;          /* the GUID, OBJECTID or MULTICAST_ID; 0 and 0 where the type has none, or refused */
+    ugb_part text;           /* the string, null included; 0 and 0 where the type has none, or refused */
+} ugb_image_read;
+
+/* Reads the s_length bytes, which are exactly one image. */
+ugb_image_read ugb_read_image(const uint8_t *s, size_t s_length);
+
+/* The image of a queue format; fixed and text are empty where the type has none. Refused with 30 to 33, then 13. */
+ugb_output ugb_write_image(ugb_queue_format format, const uint8_t *fixed, size_t fixed_length, const uint8_t *text,
+                           size_t text_length, uint8_t *out, size_t out_length);
+
+#ifdef __cplusplus
+}
+#endif
+
+#endif

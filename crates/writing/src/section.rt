@@ -21,10 +21,11 @@ ghost use mathlib.Core.Path.{_≡_};
 ghost use mathlib.Core.List.{List, _++_};
 ghost use Prim.Native.Nat.{ℕ, _+_, _≤_};
 ghost use lib.ListN.{length};
+ghost use Rattle.rules.specs.Refusal.{refusal};
 ghost use Rattle.writing.specs.Given.{given};
 ghost use Rattle.writing.specs.Laid.{partsLength, PropertiesLaid, SectionLaid, SecurityLaid};
 ghost use Rattle.octets.specs.Over.{over};
-ghost use Rattle.writing.specs.Writing.{paddedPart, propertiesBytes, sectionBytes, securityBytes, writeAnswer, writeBytes};
+ghost use Rattle.writing.specs.Writing.{paddedPart, placeEnd, placeProperties, propertiesBytes, sectionBytes, securityBytes, writeAnswer, writeBytes};
 
 // The parts of a SecurityHeader, each with its padding.
 fn write_security_parts(
@@ -148,6 +149,98 @@ fn write_headers(
     );
 }
 
+fn output_short() -> Output
+    ensures { λ r. ⌜ r ≡ Output.Refused (refusal 13 0) ⌝ }
+{
+    Output::Refused(Refusal {
+        number: refusal::OUTPUT_SHORT,
+        place: Bytes(0),
+    })
+}
+
+// 13, and the section, which ends at `length`.
+fn write_within(
+    values: SectionValues,
+    correlation_id: CorrelationId,
+    sender_id: &[u8],
+    encryption_key: &[u8],
+    signature: &[u8],
+    sender_cert: &[u8],
+    provider_info: &[u8],
+    label: &[u8],
+    extension: &[u8],
+    body: &[u8],
+    start: Bytes,
+    length: Bytes,
+    out: &mut [u8],
+) -> Output
+    requires { ⌜ placeProperties (given values «correlation_id» (now «sender_id») (now «encryption_key») (now signature) (now «sender_cert») (now «provider_info») (now label) (now extension) (now body)) ≡ Placed.At start ⌝ }
+    requires { ⌜ placeEnd (given values «correlation_id» (now «sender_id») (now «encryption_key») (now signature) (now «sender_cert») (now «provider_info») (now label) (now extension) (now body)) (Placed.At start) ≡ Placed.At length ⌝ }
+    ensures { λ r. ⌜ r ≡ writeAnswer (given values «correlation_id» (now («sender_id» .entry)) (now («encryption_key» .entry)) (now (signature .entry)) (now («sender_cert» .entry)) (now («provider_info» .entry)) (now (label .entry)) (now (extension .entry)) (now (body .entry))) (now (out .entry)) ⌝ }
+    ensures { λ _. ⌜ now (out .exit) ≡ writeBytes (given values «correlation_id» (now («sender_id» .entry)) (now («encryption_key» .entry)) (now (signature .entry)) (now («sender_cert» .entry)) (now («provider_info» .entry)) (now (label .entry)) (now (extension .entry)) (now (body .entry))) (now (out .entry)) ⌝ }
+{
+    if out.len() < length.0 {
+        return output_short();
+    }
+    write_headers(
+        values,
+        correlation_id,
+        sender_id,
+        encryption_key,
+        signature,
+        sender_cert,
+        provider_info,
+        label,
+        extension,
+        body,
+        start.0,
+        out,
+    );
+    Output::Written(length)
+}
+
+// P2 to P5 and P7, and what follows them, where the MessagePropertiesHeader has its place.
+fn write_placed(
+    values: SectionValues,
+    correlation_id: CorrelationId,
+    sender_id: &[u8],
+    encryption_key: &[u8],
+    signature: &[u8],
+    sender_cert: &[u8],
+    provider_info: &[u8],
+    label: &[u8],
+    extension: &[u8],
+    body: &[u8],
+    placed: Placed,
+    out: &mut [u8],
+) -> Output
+    requires { ⌜ placed ≡ placeProperties (given values «correlation_id» (now «sender_id») (now «encryption_key») (now signature) (now «sender_cert») (now «provider_info») (now label) (now extension) (now body)) ⌝ }
+    ensures { λ r. ⌜ r ≡ writeAnswer (given values «correlation_id» (now («sender_id» .entry)) (now («encryption_key» .entry)) (now (signature .entry)) (now («sender_cert» .entry)) (now («provider_info» .entry)) (now (label .entry)) (now (extension .entry)) (now (body .entry))) (now (out .entry)) ⌝ }
+    ensures { λ _. ⌜ now (out .exit) ≡ writeBytes (given values «correlation_id» (now («sender_id» .entry)) (now («encryption_key» .entry)) (now (signature .entry)) (now («sender_cert» .entry)) (now («provider_info» .entry)) (now (label .entry)) (now (extension .entry)) (now (body .entry))) (now (out .entry)) ⌝ }
+{
+    match placed {
+        Placed::Refused(r) => Output::Refused(r),
+        Placed::At(start) => match place_end(values, label, extension, body, start) {
+            Placed::Refused(r) => Output::Refused(r),
+            Placed::At(length) => write_within(
+                values,
+                correlation_id,
+                sender_id,
+                encryption_key,
+                signature,
+                sender_cert,
+                provider_info,
+                label,
+                extension,
+                body,
+                start,
+                length,
+                out,
+            ),
+        },
+    }
+}
+
 // Writes the section at the front of the output, or refuses and writes nothing: the steps in 01's order, and 13 last.
 // Bytes behind the section stay as they are.
 pub fn write_section(
@@ -166,40 +259,26 @@ pub fn write_section(
     ensures { λ r. ⌜ r ≡ writeAnswer (given values «correlation_id» (now («sender_id» .entry)) (now («encryption_key» .entry)) (now (signature .entry)) (now («sender_cert» .entry)) (now («provider_info» .entry)) (now (label .entry)) (now (extension .entry)) (now (body .entry))) (now (out .entry)) ⌝ }
     ensures { λ _. ⌜ now (out .exit) ≡ writeBytes (given values «correlation_id» (now («sender_id» .entry)) (now («encryption_key» .entry)) (now (signature .entry)) (now («sender_cert» .entry)) (now («provider_info» .entry)) (now (label .entry)) (now (extension .entry)) (now (body .entry))) (now (out .entry)) ⌝ }
 {
-    match place_properties(
+    let placed = place_properties(
         values,
         sender_id,
         encryption_key,
         signature,
         sender_cert,
         provider_info,
-    ) {
-        Placed::Refused(r) => Output::Refused(r),
-        Placed::At(start) => match place_end(values, label, extension, body, start) {
-            Placed::Refused(r) => Output::Refused(r),
-            Placed::At(length) => {
-                if out.len() < length.0 {
-                    return Output::Refused(Refusal {
-                        number: refusal::OUTPUT_SHORT,
-                        place: Bytes(0),
-                    });
-                }
-                write_headers(
-                    values,
-                    correlation_id,
-                    sender_id,
-                    encryption_key,
-                    signature,
-                    sender_cert,
-                    provider_info,
-                    label,
-                    extension,
-                    body,
-                    start.0,
-                    out,
-                );
-                Output::Written(length)
-            }
-        },
-    }
+    );
+    write_placed(
+        values,
+        correlation_id,
+        sender_id,
+        encryption_key,
+        signature,
+        sender_cert,
+        provider_info,
+        label,
+        extension,
+        body,
+        placed,
+        out,
+    )
 }

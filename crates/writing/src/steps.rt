@@ -20,7 +20,7 @@ ghost use Prim.Native.Nat.{ℕ, _≤_};
 ghost use lib.ListN.{length};
 ghost use Rattle.rules.specs.Refusal.{refusal};
 ghost use Rattle.writing.specs.Given.{given, propertiesGiven, securityGiven};
-ghost use Rattle.writing.specs.Writing.{placeEnd, placeProperties};
+ghost use Rattle.writing.specs.Writing.{placeEnd, placeProperties, tooLarge};
 
 fn refused(number: u32, place: Bytes) -> Placed
     ensures { λ r. ⌜ r ≡ Placed.Refused (refusal number (place .0)) ⌝ }
@@ -48,6 +48,22 @@ pub(crate) fn security_given(
     }
 }
 
+// 28
+fn too_large(encryption_key: &[u8], signature: &[u8], sender_cert: &[u8]) -> bool
+    ensures { λ r. ⌜ ((v : SectionValues) (i d p l x b : List ℕ) → r ≡ tooLarge (given v i d (now («encryption_key» .entry)) (now (signature .entry)) (now («sender_cert» .entry)) p l x b)) ⌝ }
+{
+    if 65535 < encryption_key.len() {
+        return true;
+    }
+    if 65535 < signature.len() {
+        return true;
+    }
+    if 65535 < sender_cert.len() {
+        return true;
+    }
+    false
+}
+
 // Where the MessagePropertiesHeader would begin: 28, S2 to S8, S10 and S11.
 pub(crate) fn place_properties(
     values: SectionValues,
@@ -62,13 +78,7 @@ pub(crate) fn place_properties(
     if !values.security_first {
         return Placed::At(Bytes(0));
     }
-    if 65535 < encryption_key.len() {
-        return refused(refusal::PART_TOO_LARGE, Bytes(0));
-    }
-    if 65535 < signature.len() {
-        return refused(refusal::PART_TOO_LARGE, Bytes(0));
-    }
-    if 65535 < sender_cert.len() {
+    if too_large(encryption_key, signature, sender_cert) {
         return refused(refusal::PART_TOO_LARGE, Bytes(0));
     }
     let fields = security_given(

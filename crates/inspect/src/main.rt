@@ -9,13 +9,13 @@ use reading::section::read;
 use reading::view::part_of;
 use rules::properties::PropertiesFields;
 use rules::refusal::Refusal;
+use rules::section::CorrelationId;
 use rules::section::Output;
 use rules::section::Part;
 use rules::section::Reading;
 use rules::section::Section;
 use support::copy::support_copy;
 use writing::section::write_section;
-use writing::values::CorrelationId;
 use writing::values::SectionValues;
 
 fn text(s: &[u8]) {

@@ -3,3 +3,4 @@ pub mod Over
 pub mod Padding
 pub mod Part
 pub mod Text
+pub mod UnitBytes

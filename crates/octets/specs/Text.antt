@@ -1,15 +1,21 @@
 -- Text of 16-bit units.
 use Prim.Native.Nat.{ℕ, _+_, _*_, _%_}
-use mathlib.Core.List.{List, [], _∷_}
+use mathlib.Core.List.{List, [], _∷_, _++_}
 use mathlib.Core.Bool.{Bool, false, not, _&&_, cond}
 use lib.ListN.{length}
 use lib.Dec.{eqb}
+use Rattle.octets.specs.Number.{toLe}
 
 -- the little-endian 16-bit units that the bytes hold; an odd last byte is none
 unfoldable pub units : List ℕ → List ℕ
 units [] = []
 units (a ∷ []) = []
 units (a ∷ b ∷ s) = (a + 256 * b) ∷ units s
+
+-- the bytes of units, each little-endian
+unfoldable pub unitBytes : List ℕ → List ℕ
+unitBytes [] = []
+unitBytes (u ∷ us) = toLe 2 u ++ unitBytes us
 
 -- the last and no other unit is zero; where there is none, no
 unfoldable pub lastOnly : List ℕ → Bool

@@ -54,7 +54,7 @@ fn refused(number: u32, place: Bytes) -> PropertiesLayout
 }
 
 // P5. An offset or a size above the limit decides by itself, so that no sum wraps.
-fn layout_within(f: PropertiesFields, at: Bytes) -> PropertiesLayout
+pub fn layout_within(f: PropertiesFields, at: Bytes) -> PropertiesLayout
     ensures { λ r. ⌜ r ≡ cond (ltb limit (at .0 + propertiesLength f)) (PropertiesLayout.Refused (refusal 8 (at .0))) (PropertiesLayout.Fits (propertiesParts (at .0) f)) ⌝ }
 {
     let start = at.0;

@@ -39,6 +39,22 @@ pub const LABEL: u32 = 12;
 
 pub const OUTPUT_SHORT: u32 = 13;
 
+pub const VALUE_OUT_OF_RANGE: u32 = 20;
+
+pub const PRIVACY: u32 = 21;
+
+pub const PRIVACY_ON_A_DIRECT_QUEUE: u32 = 22;
+
+pub const ALGORITHM_ABSENT: u32 = 23;
+
+pub const HASH_ABSENT: u32 = 24;
+
+pub const REQUEST_IDENTITY: u32 = 25;
+
+pub const REQUEST_PROVIDER: u32 = 26;
+
+pub const SPLIT_NUMBER: u32 = 27;
+
 pub const PART_TOO_LARGE: u32 = 28;
 
 pub const QUEUE_TYPE: u32 = 30;

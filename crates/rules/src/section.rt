@@ -8,6 +8,9 @@ use octets::count::Bytes;
 // 01: a section has at most so many bytes.
 pub const LIMIT: usize = 4194304;
 
+// CorrelationID's 20 bytes.
+pub type CorrelationId = [u8; 20];
+
 // Where a part lies, in bytes, counted from the section's first byte.
 #[repr(C)]
 pub struct Part {

@@ -82,7 +82,7 @@ fn is_empty(f: SecurityFields) -> bool
 }
 
 // S6
-fn identity_size_fits(st: u32, size: usize) -> bool
+pub fn identity_size_fits(st: u32, size: usize) -> bool
     ensures { λ r. ⌜ r ≡ identitySize st size ⌝ }
 {
     if st == 0 {
@@ -123,7 +123,7 @@ fn provider_size_fits(de: u32, signature: usize, size: usize) -> bool
 }
 
 // S8. A size above the limit decides by itself, so that no sum wraps.
-fn layout_within(f: SecurityFields, at: Bytes) -> SecurityLayout
+pub fn layout_within(f: SecurityFields, at: Bytes) -> SecurityLayout
     ensures { λ r. ⌜ r ≡ cond (ltb limit (securityLength f)) (SecurityLayout.Refused (refusal 8 (at .0))) (SecurityLayout.Fits (securityParts f)) ⌝ }
 {
     let sender_id = f.sender_id_size.0;
@@ -213,7 +213,7 @@ fn sub_authorities(size: usize) -> usize
 }
 
 // S10
-fn identity_head_fits(f: SecurityFields, identity: &[u8]) -> bool
+pub fn identity_head_fits(f: SecurityFields, identity: &[u8]) -> bool
     ensures { λ r. ⌜ r ≡ identityHead f (now (identity .entry)) ⌝ }
 {
     let flags = f.flags;

@@ -2,9 +2,6 @@
 use octets::count::Bytes;
 use rules::refusal::Refusal;
 
-// CorrelationID's 20 bytes.
-pub type CorrelationId = [u8; 20];
-
 // The values of a full reading. The sizes come from the parts.
 #[repr(C)]
 pub struct SectionValues {

@@ -52,7 +52,7 @@ pub record Way (k : Given → Given) (securityBits : SecurityFields → List ℕ
       → Shown (propertiesBits (propertiesGiven g)) (propertiesBytes (k g)) s p
 
 -- an accepted input has a summary, of which the full reading is made
-accepted : (s : List ℕ) (x : Summarized) (r : Section) → fullReading s x ≡ Reading·Accepted r
+pub accepted : (s : List ℕ) (x : Summarized) (r : Section) → fullReading s x ≡ Reading·Accepted r
     → (x ≡ Accepted (r .summary)) × (r ≡ sectionOf (r .summary) s)
 unfolding fullReading sectionOf
 accepted s (Accepted m) r e =

@@ -1,0 +1,9 @@
+pub mod Fits
+pub mod Flags
+pub mod Legal
+pub mod NoSecurity
+pub mod Provider
+pub mod Section
+pub mod Signature
+pub mod Text
+pub mod Title

@@ -1,0 +1,24 @@
+-- The tests that led to each answer pick its case of `algorithmMissing`.
+use borrow.Author.Needs.{needs}
+use borrow.Author.Tests.{not-false, not-true}
+use Rattle.requests.specs.Steps.{algorithmMissing}
+use Rattle.requests.proofs.steps.algorithm_missing.Statement.{statement}
+use Rattle.requests.proofs.steps.algorithm_missing.Tie as tie
+
+is-given-requires : tie.Need-is-given-requires
+is-given-requires c κs = search needs
+
+returns : tie.Need-returns
+unfolding algorithmMissing
+returns c i t d k s e n x b = simp (← c .before .is-given .ensures, not-true (c .before .is-given .result) (c .if1 .taken))
+
+is-given-requires-2 : tie.Need-is-given-requires-2
+is-given-requires-2 c κs = search needs
+
+returns-2 : tie.Need-returns-2
+unfolding algorithmMissing
+returns-2 c i t d k s e n x b = simp (← c .before .before .is-given .ensures, not-false (c .before .before .is-given .result) (c .before .if1 .left), ← c .is-given2 .ensures)
+
+pub algorithm-missing-spec : {M : Type 1} → statement M
+algorithm-missing-spec =
+    tie.close (tie.spec is-given-requires returns is-given-requires-2 returns-2)

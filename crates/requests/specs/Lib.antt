@@ -1,0 +1,4 @@
+pub mod Defaults
+pub mod Request
+pub mod Section
+pub mod Steps

@@ -1,0 +1,125 @@
+// The one function that makes the defaulted properties of a send request.
+use crate::properties::Defaulted;
+use crate::properties::Handling;
+use crate::properties::HandlingValues;
+use crate::properties::Properties;
+use crate::properties::ProviderType;
+use crate::properties::Sender;
+use crate::properties::SenderValues;
+use crate::request::Correlation;
+use crate::request::Request;
+use crate::section::allocation_of;
+use crate::section::body_size;
+use crate::signature::kept_bytes;
+use crate::steps::request_steps;
+use crate::text::kept_units;
+use crate::values;
+use octets::count::Bytes;
+use rules::refusal::Checked;
+use rules::section::CorrelationId;
+ghost use mathlib.Core.Path.{_≡_};
+ghost use mathlib.Core.List.{List};
+ghost use Prim.Native.Nat.{ℕ};
+ghost use Rattle.requests.specs.Defaults.{correlationOr, propertiesOf};
+ghost use Rattle.requests.specs.Request.{sendRequest};
+ghost use Rattle.requests.specs.Steps.{defaulted};
+
+// The CorrelationID, or 20 zero bytes where it is absent.
+pub fn correlation_of(correlation: Correlation, given: CorrelationId) -> CorrelationId
+    ensures { λ r. ⌜ r ≡ correlationOr given correlation ⌝ }
+{
+    match correlation {
+        Correlation::Absent => [0u8; 20],
+        Correlation::Given => given,
+    }
+}
+
+fn handling_of(request: Request) -> Handling
+    ensures { λ r. ⌜ ((i t d k s c n x b : List ℕ) → r ≡ propertiesOf (sendRequest request i t d k s c n x b) .handling) ⌝ }
+{
+    let split_number = request.split_number;
+    Handling::Known(HandlingValues {
+        priority: values::priority(request),
+        trace: values::trace(request),
+        delivery: values::delivery(request),
+        auditing: values::auditing(request),
+        transaction: request.transaction,
+        direct_queue: request.direct_queue,
+        split_number,
+        provider_name_length: request.provider_name_length,
+    })
+}
+
+fn sender_of(request: Request, encryption_key: &[u8]) -> Sender
+    ensures { λ r. ⌜ ((i t d s c n x b : List ℕ) → r ≡ propertiesOf (sendRequest request i t d (now («encryption_key» .entry)) s c n x b) .sender) ⌝ }
+{
+    Sender::Known(SenderValues {
+        kind: values::sender_kind(request),
+        default_provider: request.default_provider,
+        encryption: values::encryption(request, encryption_key),
+    })
+}
+
+fn properties_of(
+    request: Request,
+    title: &[u16],
+    encryption_key: &[u8],
+    signature: &[u8],
+    body: &[u8],
+) -> Properties
+    ensures { λ r. ⌜ ((i d c n x : List ℕ) → r ≡ propertiesOf (sendRequest request i (now (title .entry)) d (now («encryption_key» .entry)) (now (signature .entry)) c n x (now (body .entry)))) ⌝ }
+{
+    let given = request.body;
+    Properties {
+        handling: handling_of(request),
+        sender: sender_of(request, encryption_key),
+        provider_type: ProviderType::Known(values::provider_type(request)),
+        message_class: values::message_class(request),
+        acknowledge: values::acknowledge(request),
+        application_tag: values::application_tag(request),
+        privacy_level: values::privacy_level(request),
+        hash_algorithm: values::hash_algorithm(request),
+        encryption_algorithm: values::encryption_algorithm(request),
+        body_type: values::body_type(request),
+        message_size: Bytes(body_size(given, body)),
+        allocation_body_size: Bytes(allocation_of(given)),
+        title: kept_units(title),
+        signature: kept_bytes(request, signature),
+    }
+}
+
+// The defaulted properties, or the refusal of the first step that fails. The output's step is left to the sender.
+pub fn defaulted(
+    request: Request,
+    title: &[u16],
+    sender_id: &[u8],
+    encryption_key: &[u8],
+    signature: &[u8],
+    sender_cert: &[u8],
+    provider_name: &[u16],
+    extension: &[u8],
+    body: &[u8],
+) -> Defaulted
+    ensures { λ r. ⌜ ((i : List ℕ) → r ≡ defaulted (sendRequest request i (now (title .entry)) (now («sender_id» .entry)) (now («encryption_key» .entry)) (now (signature .entry)) (now («sender_cert» .entry)) (now («provider_name» .entry)) (now (extension .entry)) (now (body .entry)))) ⌝ }
+{
+    match request_steps(
+        request,
+        title,
+        sender_id,
+        encryption_key,
+        signature,
+        sender_cert,
+        provider_name,
+        extension,
+        body,
+    ) {
+        Checked::Refused(r) => Defaulted::Refused(r),
+        Checked::Passed => Defaulted::Properties(properties_of(
+            request,
+            title,
+            encryption_key,
+            signature,
+            body,
+        )),
+    }
+}

@@ -1,0 +1,5 @@
+pub mod Carried
+pub mod Given
+pub mod Send
+pub mod Units
+pub mod Values

@@ -1,0 +1,3 @@
+pub mod Examples
+pub mod Send
+pub mod Theorems

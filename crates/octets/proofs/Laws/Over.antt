@@ -1,12 +1,12 @@
 -- Bytes written over an output: byte by byte, and one part after the other.
-use Prim.Native.Nat.{ℕ, _+_, _-_, _≤_, _<_}
+use Prim.Native.Nat.{ℕ, suc, _+_, _-_, _≤_, _<_}
 use mathlib.Core.Path.{_≡_, refl, sym, ap, _∙_}
 use mathlib.Core.List.{List, [], _∷_, _++_, append-assoc, append-nil}
 use native.Mathlib.Nat.{add-assoc, zero-add}
 use native.Mathlib.Numerals.{add-one}
 use native.Mathlib.Omega.{arith}
 use lib.ListN.{length, getD, take, drop, set, replicate, length-append, length-drop, length-replicate, replicate-append-replicate, take-append-drop}
-use lib.Seq.{length-take-le, take-all, take-at, take-suc, drop-at, drop-drop, drop-length, set-split}
+use lib.Seq.{append-snoc, length-take-le, take-all, take-at, take-suc, drop-at, drop-cons, drop-drop, drop-length, set-at, set-split}
 use Rattle.octets.proofs.Laws.Part.{rest-drop}
 use Rattle.octets.specs.Over.{over, overAt, copied}
 
@@ -50,6 +50,21 @@ pub over-part : {now : List ℕ} (i : ℕ) (part out : List ℕ) → now ≡ ove
 over-part i part out e h hn =
     over-more 0 (take i part) out i (getD part i 0) (e ∙ sym (over-start (take i part) out)) (omega (arith, length-take-le i part (omega arith))) (omega arith) hn
     ∙ rw (add-one, take-suc part i 0) (over-start (take i part ++ (getD part i 0 ∷ [])) out)
+
+-- one byte before: a turn of a loop that goes backwards
+pub over-before : {now : List ℕ} (at : ℕ) (p out : List ℕ) (byte : ℕ) → now ≡ overAt (suc at) p out → at < length out
+    → set now at byte ≡ overAt at (byte ∷ p) out
+unfolding over overAt
+over-before {now} at p out byte e h =
+    let front = take at out in
+    let rest = p ++ drop (length p) (drop (suc at) out) in
+    let split : now ≡ front ++ getD out at 0 ∷ rest =
+    e ∙ ap (λ (l : List ℕ). l ++ rest) (take-suc out at 0 h) ∙ append-snoc front (getD out at 0) rest in
+    let last : drop (suc (length p)) (drop at out) ≡ drop (length p) (drop (suc at) out) =
+    ap (drop (suc (length p))) (drop-cons out at 0 h) in
+    ap (λ (l : List ℕ). set l at byte) split
+    ∙ set-at front (getD out at 0) rest byte at (length-take-le at out (omega arith))
+    ∙ ap (λ (l : List ℕ). front ++ byte ∷ (p ++ l)) (sym last)
 
 -- one zero more
 pub over-zeros : {now : List ℕ} (i : ℕ) (out : List ℕ) → now ≡ over (replicate i 0) out → i < length now
@@ -152,3 +167,8 @@ pub written-zeros : {p out : List ℕ} {end : ℕ} {now : List ℕ} (at n : ℕ)
 written-zeros {now = now} at n later w a h e =
     written-next at n (replicate n 0) w a (length-replicate n 0)
     (zeros-lent at n now (omega (arith, written-length w (omega arith))) later e)
+
+-- they are the first bytes
+pub written-take : {p out : List ℕ} {end : ℕ} {now : List ℕ} → Written p out end now → take end now ≡ p
+unfolding over
+written-take {p} {out} {end} w = ap (take end) (w .bytes) ∙ take-at p (drop (length p) out) end (w .ends)

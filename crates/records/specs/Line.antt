@@ -1,0 +1,81 @@
+-- 01, the lines that the listing program prints, as ASCII codes: columns with a space between them, a newline at the end.
+use Prim.Native.Nat.{ℕ}
+use mathlib.Core.Bool.{cond}
+use mathlib.Core.List.{List, [], _∷_, _++_}
+use lib.ListN.{length}
+use lib.Dec.{ltb}
+use Rattle.octets.specs.Over.{over}
+use Rattle.rules.specs.Refusal.{bytes, refusal}
+use Rattle.rules.specs.declared.section.Output.{Output}
+use Rattle.rules.specs.declared.section.Output.the-variants.{Written, Refused as Output·Refused}
+use Rattle.records.specs.Decimal.{decimal}
+use Rattle.records.specs.declared.record.Line.{Line}
+use Rattle.records.specs.declared.line.Row.{Row}
+use Rattle.records.specs.declared.line.Row.the-variants.{Header, Record, End, Stop}
+use Rattle.records.specs.declared.record.Answer.{Answer}
+use Rattle.records.specs.declared.record.Answer.the-variants.{Accepted, Refused}
+
+unfoldable pub line : List (List ℕ) → List ℕ
+line [] = 10 ∷ []
+line (c ∷ []) = c ++ (10 ∷ [])
+line (c ∷ d ∷ cs) = c ++ (32 ∷ line (d ∷ cs))
+
+-- `no answer class label ext body total`
+unfoldable pub headerLine : List ℕ
+headerLine =
+    line
+    ((110 ∷ 111 ∷ [])
+    ∷ (97 ∷ 110 ∷ 115 ∷ 119 ∷ 101 ∷ 114 ∷ [])
+    ∷ (99 ∷ 108 ∷ 97 ∷ 115 ∷ 115 ∷ [])
+    ∷ (108 ∷ 97 ∷ 98 ∷ 101 ∷ 108 ∷ [])
+    ∷ (101 ∷ 120 ∷ 116 ∷ [])
+    ∷ (98 ∷ 111 ∷ 100 ∷ 121 ∷ [])
+    ∷ (116 ∷ 111 ∷ 116 ∷ 97 ∷ 108 ∷ [])
+    ∷ [])
+
+-- "extension bytes, body bytes, section length", the last columns of a record that is accepted
+unfoldable pub sizes : Line → List (List ℕ)
+sizes l =
+    decimal (l .«extension_size» .0) ∷ decimal (l .«message_size» .0) ∷ decimal (l .«section_length» .0) ∷ []
+
+unfoldable pub sizesBytes : Line → List ℕ
+sizesBytes l = line (sizes l)
+
+-- "record number, answer, class, units of label, extension bytes, body bytes, section length, in decimal; or number, refused, refusal, place"
+unfoldable pub lineBytes : ℕ → Answer → List ℕ
+lineBytes number (Accepted l) =
+    line
+    (decimal number
+    ∷ (111 ∷ 107 ∷ [])  -- ok
+    ∷ decimal (l .«message_class»)
+    ∷ decimal (l .«label_length» .0)
+    ∷ sizes l)
+lineBytes number (Refused r) =
+    line
+    (decimal number
+    ∷ (114 ∷ 101 ∷ 102 ∷ 117 ∷ 115 ∷ 101 ∷ 100 ∷ [])  -- refused
+    ∷ decimal (r .number)
+    ∷ decimal (r .place .0)
+    ∷ [])
+
+-- "last `end` and the number of records"
+unfoldable pub endLine : ℕ → List ℕ
+endLine count = line ((101 ∷ 110 ∷ 100 ∷ []) ∷ decimal count ∷ [])
+
+-- "`stop` and the record number instead"
+unfoldable pub stopLine : ℕ → List ℕ
+stopLine number = line ((115 ∷ 116 ∷ 111 ∷ 112 ∷ []) ∷ decimal number ∷ [])
+
+-- any of the four
+unfoldable pub rowBytes : Row → List ℕ
+rowBytes Header = headerLine
+rowBytes (Record number answer) = lineBytes number answer
+rowBytes (End count) = endLine count
+rowBytes (Stop number) = stopLine number
+
+-- what a writer answers for a line, and what the lent output then holds: 13 where it is shorter, and not a byte written
+unfoldable pub writeAnswer : List ℕ → List ℕ → Output
+writeAnswer text out = cond (ltb (length out) (length text)) (Output·Refused (refusal 13 0)) (Written (bytes (length text)))
+
+unfoldable pub writeBytes : List ℕ → List ℕ → List ℕ
+writeBytes text out = cond (ltb (length out) (length text)) out (over text out)

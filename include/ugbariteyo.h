@@ -31,30 +31,38 @@ extern "C" {
 
 /* The numbers of a refusal, in 01's words. */
 enum ugb_refusal_number {
-    UGB_ACCEPTED = 0,           /* nothing is refused */
-    UGB_INPUT_SHORT = 1,        /* input short: S1, S9, P1, P6; a queue format under 4 bytes */
-    UGB_SENDER_KIND = 2,        /* sender kind: S2 */
-    UGB_AU_OR_AS = 3,           /* AU or AS not zero: S3 */
-    UGB_EMPTY_OR_DP_CLEAR = 4,  /* empty, or DP clear: S4 */
-    UGB_CERTIFICATE_SIZE = 5,   /* certificate size: S5 */
-    UGB_IDENTITY = 6,           /* identity: S6, S10 */
-    UGB_PROVIDER = 7,           /* provider: S7, S11 */
-    UGB_ABOVE_THE_LIMIT = 8,    /* above the limit: S8, P5 */
-    UGB_LABEL_LENGTH = 9,       /* label length: P2; for the writer also a label of an odd number of bytes */
-    UGB_CLASS = 10,             /* class: P3 */
-    UGB_ALLOCATION = 11,        /* allocation: P4 */
-    UGB_LABEL = 12,             /* label: P7 */
-    UGB_OUTPUT_SHORT = 13,      /* output short */
-    UGB_PART_TOO_LARGE = 28,    /* key, signature or certificate above 65,535 bytes */
-    UGB_QUEUE_TYPE = 30,        /* queue format: type */
-    UGB_QUEUE_SUFFIX = 31,      /* queue format: suffix and flags with that type */
-    UGB_QUEUE_VALUE = 32,       /* queue format: the value's length */
-    UGB_QUEUE_STRING = 33       /* queue format: string */
+    UGB_ACCEPTED = 0,                   /* nothing is refused */
+    UGB_INPUT_SHORT = 1,                /* input short: S1, S9, P1, P6; a queue format under 4 bytes */
+    UGB_SENDER_KIND = 2,                /* sender kind: S2 */
+    UGB_AU_OR_AS = 3,                   /* AU or AS not zero: S3 */
+    UGB_EMPTY_OR_DP_CLEAR = 4,          /* empty, or DP clear: S4 */
+    UGB_CERTIFICATE_SIZE = 5,           /* certificate size: S5 */
+    UGB_IDENTITY = 6,                   /* identity: S6, S10 */
+    UGB_PROVIDER = 7,                   /* provider: S7, S11 */
+    UGB_ABOVE_THE_LIMIT = 8,            /* above the limit: S8, P5 */
+    UGB_LABEL_LENGTH = 9,               /* label length: P2; for the writer also a label of an odd number of bytes */
+    UGB_CLASS = 10,                     /* class: P3 */
+    UGB_ALLOCATION = 11,                /* allocation: P4 */
+    UGB_LABEL = 12,                     /* label: P7 */
+    UGB_OUTPUT_SHORT = 13,              /* output short */
+    UGB_VALUE_OUT_OF_RANGE = 20,        /* request: priority, trace, delivery, acknowledge or auditing */
+    UGB_PRIVACY = 21,                   /* request: privacy not 0, 1 or 2 */
+    UGB_PRIVACY_ON_A_DIRECT_QUEUE = 22, /* request: direct queue with privacy not 0 */
+    UGB_ALGORITHM_ABSENT = 23,          /* request: privacy present, algorithm absent */
+    UGB_HASH_ABSENT = 24,               /* request: signature bytes given, hash absent */
+    UGB_REQUEST_IDENTITY = 25,          /* request: identity or its kind */
+    UGB_REQUEST_PROVIDER = 26,          /* request: provider of a signature */
+    UGB_SPLIT_NUMBER = 27,              /* request: the signature's split number */
+    UGB_PART_TOO_LARGE = 28,            /* key, signature or certificate above 65,535 bytes */
+    UGB_QUEUE_TYPE = 30,                /* queue format: type */
+    UGB_QUEUE_SUFFIX = 31,              /* queue format: suffix and flags with that type */
+    UGB_QUEUE_VALUE = 32,               /* queue format: the value's length */
+    UGB_QUEUE_STRING = 33               /* queue format: string */
 };
 
 typedef struct ugb_refusal {
     uint32_t number; /* one of the numbers above */
-    size_t place;    /* offset of the header being read, or that would be written; 0 for 13, 28 and queue formats */
+    size_t place;    /* offset of the header being read, or that would be written; 0 for 13, 20 to 33 and requests */
 } ugb_refusal;
 
 /* Where a part lies in the input that was read. */
@@ -175,7 +183,7 @@ ugb_output ugb_support_copy(const uint8_t *s, size_t s_length, bool security_fir
 
 /* The values of a section. The sizes come from the parts. */
 typedef struct ugb_section_values {
-    bool security_first;           /* whether a SecurityHeader is written; without one its values and parts are ignored */
+    bool security_first;           /* whether a SecurityHeader is written; else its values and parts are ignored */
     uint16_t security_flags;       /* its Flags, as in ugb_security_fields; X bits are written zero */
     uint8_t flags;                 /* Flags, as in ugb_properties_fields; X bits are written zero */
     uint16_t message_class;        /* MessageClass */
@@ -199,6 +207,111 @@ ugb_output ugb_write_section(ugb_section_values values, const uint8_t correlatio
                              const uint8_t *extension, size_t extension_length,           /* extension */
                              const uint8_t *body, size_t body_length,                     /* body */
                              uint8_t *out, size_t out_length);
+
+/* ---- Send requests */
+
+/* A number that may be absent. */
+typedef struct ugb_number {
+    bool given;      /* whether it is there */
+    uint32_t number; /* the number; not looked at where absent, and 0 in an answer */
+} ugb_number;
+
+/* The numbers and marks of a send request (002). Its parts are lent beside it, an absent one with a length of 0. */
+typedef struct ugb_request {
+    ugb_number priority;             /* priority, 0 to 7; absent: 3. Every other number that is absent counts as 0 */
+    ugb_number trace;                /* trace, 0 or 1 */
+    ugb_number delivery;             /* delivery, 0 or 1; a transaction makes it 1 */
+    ugb_number auditing;             /* auditing, 0 to 3 */
+    ugb_number message_class;        /* class */
+    ugb_number acknowledge;          /* acknowledge, 0 to 15: the properties Flags */
+    ugb_number application_tag;      /* tag */
+    ugb_number privacy_level;        /* privacy, 0, 1 or 2; a packet holds 0, 1 or 3 */
+    ugb_number hash_algorithm;       /* hash */
+    ugb_number encryption_algorithm; /* encryption algorithm */
+    ugb_number body_type;            /* body type */
+    ugb_number sender_kind;          /* sender kind, 0 to 2 */
+    ugb_number provider_type;        /* provider type */
+    ugb_number split_number;         /* pulAuthProvNameLenProp; absent: the signature is not cut */
+    uint32_t provider_name_length;   /* ulProvNameLen, which is taken from the split number */
+    bool correlation_given;          /* whether a CorrelationID is given; else it is 20 zero bytes, whatever is lent */
+    bool body_given;                 /* whether a body is given; else its size and allocation are 0, whatever is lent */
+    size_t allocation_body_size;     /* ulAllocBodyBufferInBytes, of a body that is given */
+    bool transaction;                /* whether the message is sent in a transaction */
+    bool direct_queue;               /* whether the queue is a direct one */
+    bool default_provider;           /* whether the default provider signs */
+    bool encryption;                 /* whether encryption is asked for; without a key it counts as not asked */
+} ugb_request;
+
+/* What no section carries. */
+typedef struct ugb_handling {
+    bool known;                    /* whether the values below are known: of a request they are */
+    uint32_t priority;             /* priority */
+    uint32_t trace;                /* trace */
+    uint32_t delivery;             /* delivery */
+    uint32_t auditing;             /* auditing */
+    bool transaction;              /* the transaction */
+    bool direct_queue;             /* the direct-queue mark */
+    ugb_number split_number;       /* the split number */
+    uint32_t provider_name_length; /* the name-length number */
+} ugb_handling;
+
+/* What only a SecurityHeader carries. */
+typedef struct ugb_sender {
+    bool known;            /* whether the values below are known: of a request they are */
+    uint32_t kind;         /* sender kind */
+    bool default_provider; /* default provider */
+    bool encryption;       /* encryption, asked for with a key */
+} ugb_sender;
+
+/* The properties of a request once each absent value has its default. */
+typedef struct ugb_properties {
+    ugb_handling handling;         /* what no section carries */
+    ugb_sender sender;             /* what only a SecurityHeader carries */
+    ugb_number provider_type;      /* what only provider info carries; of a request it is known */
+    uint32_t message_class;        /* class */
+    uint32_t acknowledge;          /* acknowledge */
+    uint32_t application_tag;      /* tag */
+    uint32_t privacy_level;        /* the request's 0, 1 or 2 */
+    uint32_t hash_algorithm;       /* hash */
+    uint32_t encryption_algorithm; /* encryption algorithm */
+    uint32_t body_type;            /* body type */
+    size_t message_size;           /* the body's bytes */
+    size_t allocation_body_size;   /* the body's allocation */
+    uint32_t title;                /* how many 16-bit units of the title are kept, without the null that is added */
+    ugb_part signature;            /* which bytes of the signature are kept */
+} ugb_properties;
+
+typedef struct ugb_defaulted_answer {
+    ugb_refusal refusal;        /* 0, 8, 10, 11 or 20 to 28, at place 0 */
+    ugb_properties properties;  /* the defaulted properties; all zero where refused */
+    uint8_t correlation_id[20]; /* the CorrelationID, zero where absent or refused */
+} ugb_defaulted_answer;
+
+/* The defaulted properties of a request: 01's steps in their order, but for the output's. Title and provider name are
+ * 16-bit units, and their lengths count units. */
+ugb_defaulted_answer ugb_defaulted(ugb_request request, const uint8_t correlation_id[20], /* 20 bytes */
+                                   const uint16_t *title, size_t title_units,             /* title, in units */
+                                   const uint8_t *sender_id, size_t sender_id_length,     /* identity */
+                                   const uint8_t *encryption_key, size_t encryption_key_length, /* key */
+                                   const uint8_t *signature, size_t signature_length,           /* signature bytes */
+                                   const uint8_t *sender_cert, size_t sender_cert_length,       /* certificate */
+                                   const uint16_t *provider_name, size_t provider_name_units,   /* name, in units */
+                                   const uint8_t *extension, size_t extension_length,           /* extension */
+                                   const uint8_t *body, size_t body_length);                    /* body */
+
+/* The section of a request, at the front of the output. Refused as ugb_defaulted refuses, then 13, at place 0; the
+ * output is then as it was. Whether it begins with a SecurityHeader: it does where identity, key, signature or
+ * certificate is not empty. */
+ugb_output ugb_send(ugb_request request, const uint8_t correlation_id[20],       /* 20 bytes */
+                    const uint16_t *title, size_t title_units,                   /* title, in units */
+                    const uint8_t *sender_id, size_t sender_id_length,           /* identity */
+                    const uint8_t *encryption_key, size_t encryption_key_length, /* key */
+                    const uint8_t *signature, size_t signature_length,           /* signature bytes */
+                    const uint8_t *sender_cert, size_t sender_cert_length,       /* certificate */
+                    const uint16_t *provider_name, size_t provider_name_units,   /* name, in units */
+                    const uint8_t *extension, size_t extension_length,           /* extension */
+                    const uint8_t *body, size_t body_length,                     /* body */
+                    uint8_t *out, size_t out_length);                            /* lent output */
 
 /* ---- Queue formats */
 

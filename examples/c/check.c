@@ -1,32 +1,10 @@
-/* Calls every function of ugbariteyo.h on small inputs, 01's examples among them, and compares the answers; each member
- * of each struct has a value of its own somewhere, so that a member at a wrong offset shows. Ends with the number of
- * comparisons, or at the first that fails. */
-#include <stdio.h>
-#include <stdlib.h>
-#include <string.h>
-
-#include "ugbariteyo.h"
-
-#define SAME(found, wanted) same((size_t)(found), (size_t)(wanted), #found, __LINE__)
-
-static unsigned compared;
-
-static void same(size_t found, size_t wanted, const char *what, int line)
-{
-    compared++;
-    if (found == wanted)
-        return;
-    fprintf(stderr, "line %d: %s is %zu, not %zu\n", line, what, found, wanted);
-    exit(1);
-}
+/* Calls the functions for sections and queue formats on small inputs, 01's examples among them, and compares the
+ * answers; each member of each struct has a value of its own somewhere, so that a member at a wrong offset shows. */
+#include "check.h"
 
 /* ---- what most checks use */
 
 static const uint8_t no_bytes[1];
-static const uint8_t correlation_id[20] = {1, 2, 3, 4, 5, 6, 7, 8, 9, 10, 11, 12, 13, 14, 15, 16, 17, 18, 19, 20};
-static uint8_t input[UGB_LIMIT];
-static uint8_t out[1024];
-
 static void put(size_t at, unsigned width, uint32_t number)
 {
     for (unsigned i = 0; i < width; i++)
@@ -41,46 +19,6 @@ static void put_properties(size_t p, uint8_t units, uint16_t class)
     put(p + 2, 2, class);
     for (unsigned i = 0; i + 1 < units; i++)
         put(p + 56 + 2 * i, 2, 'a');
-}
-
-static void pattern(void)
-{
-    memset(out, 0xA5, sizeof out);
-}
-
-/* Nothing of the output from there on was written. */
-static void untouched_from(size_t at)
-{
-    for (size_t i = at; i < sizeof out; i++)
-        SAME(out[i], 0xA5);
-}
-
-static void same_refusal(ugb_refusal found, uint32_t number, size_t place)
-{
-    SAME(found.number, number);
-    SAME(found.place, place);
-}
-
-static void same_part(ugb_part found, size_t start, size_t length)
-{
-    SAME(found.start, start);
-    SAME(found.length, length);
-}
-
-/* Refused: the output is as it was. */
-static void refused(ugb_output found, uint32_t number, size_t place)
-{
-    same_refusal(found.refusal, number, place);
-    SAME(found.length, 0);
-    untouched_from(0);
-}
-
-/* Written: the bytes behind it are as they were. */
-static void written(ugb_output found, size_t length)
-{
-    same_refusal(found.refusal, UGB_ACCEPTED, 0);
-    SAME(found.length, length);
-    untouched_from(length);
 }
 
 /* ---- a section that has everything, written and read back */
@@ -418,6 +356,6 @@ int main(void)
     check_security_examples();
     check_images();
     check_null();
-    printf("%u comparisons, all the same\n", compared);
+    report();
     return 0;
 }

@@ -1,8 +1,8 @@
 // The section writer.
 use crate::output::UgbOutput;
 use crate::output::output_answer;
+use rules::section::CorrelationId;
 use writing::section::write_section;
-use writing::values::CorrelationId;
 use writing::values::SectionValues;
 ghost use mathlib.Core.Path.{_≡_};
 ghost use Rattle.writing.specs.Given.{given};

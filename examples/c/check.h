@@ -1,0 +1,68 @@
+/* What the C tests share: comparisons that end the program at the first that fails, and an output with a pattern. */
+#include <stdio.h>
+#include <stdlib.h>
+#include <string.h>
+
+#include "ugbariteyo.h"
+
+#define SAME(found, wanted) same((size_t)(found), (size_t)(wanted), #found, __LINE__)
+
+static unsigned compared;
+
+static inline void same(size_t found, size_t wanted, const char *what, int line)
+{
+    compared++;
+    if (found == wanted)
+        return;
+    fprintf(stderr, "line %d: %s is %zu, not %zu\n", line, what, found, wanted);
+    exit(1);
+}
+
+static const uint8_t correlation_id[20] = {1, 2, 3, 4, 5, 6, 7, 8, 9, 10, 11, 12, 13, 14, 15, 16, 17, 18, 19, 20};
+static uint8_t input[UGB_LIMIT];
+static uint8_t out[1024];
+
+static inline void pattern(void)
+{
+    memset(out, 0xA5, sizeof out);
+}
+
+/* Nothing of the output from there on was written. */
+static inline void untouched_from(size_t at)
+{
+    for (size_t i = at; i < sizeof out; i++)
+        SAME(out[i], 0xA5);
+}
+
+static inline void same_refusal(ugb_refusal found, uint32_t number, size_t place)
+{
+    SAME(found.number, number);
+    SAME(found.place, place);
+}
+
+static inline void same_part(ugb_part found, size_t start, size_t length)
+{
+    SAME(found.start, start);
+    SAME(found.length, length);
+}
+
+/* Refused: the output is as it was. */
+static inline void refused(ugb_output found, uint32_t number, size_t place)
+{
+    same_refusal(found.refusal, number, place);
+    SAME(found.length, 0);
+    untouched_from(0);
+}
+
+/* Written: the bytes behind it are as they were. */
+static inline void written(ugb_output found, size_t length)
+{
+    same_refusal(found.refusal, UGB_ACCEPTED, 0);
+    SAME(found.length, length);
+    untouched_from(length);
+}
+
+static inline void report(void)
+{
+    printf("%u comparisons, all the same\n", compared);
+}

@@ -1,0 +1,209 @@
+/* The same for send requests. */
+#include "check.h"
+
+static const uint16_t title[4] = {'h', 'i', 0, 'x'};
+static const uint16_t name[1] = {'p'};
+static const uint8_t identity[8] = {1, 0, 0, 0, 0, 0, 0, 5};
+static const uint8_t key[3] = {0x31, 0x32, 0x33};
+static const uint8_t signature[5] = {0x41, 0x42, 0x43, 0x44, 0x45};
+static const uint8_t body[10] = {0x71, 0x72, 0x73, 0x74, 0x75, 0x76, 0x77, 0x78, 0x79, 0x7A};
+
+/* A legal request, in which every number differs. */
+static const ugb_request whole = {
+    .priority = {true, 5},
+    .trace = {true, 1},
+    .delivery = {true, 0},
+    .auditing = {true, 3},
+    .message_class = {true, 0x8009},
+    .acknowledge = {true, 9},
+    .application_tag = {true, 0x05060708},
+    .privacy_level = {true, 2},
+    .hash_algorithm = {true, 0x800C},
+    .encryption_algorithm = {true, 0x6610},
+    .body_type = {true, 0x01020304},
+    .sender_kind = {true, 1},
+    .provider_type = {true, 0x0B0C0D0E},
+    .split_number = {true, 14},
+    .provider_name_length = 11,
+    .correlation_given = true,
+    .body_given = true,
+    .allocation_body_size = 77,
+    .transaction = true,
+    .encryption = true,
+};
+
+static ugb_defaulted_answer defaulted(ugb_request request, size_t name_units, size_t certificate, size_t body_length)
+{
+    return ugb_defaulted(request, correlation_id, title, 4, identity, sizeof identity, key, sizeof key, signature,
+                         sizeof signature, input, certificate, name, name_units, input, 9,
+                         body_length == sizeof body ? body : input, body_length);
+}
+
+static void check_handling(ugb_handling handling)
+{
+    SAME(handling.known, true);
+    SAME(handling.priority, 5);
+    SAME(handling.trace, 1);
+    SAME(handling.delivery, 1);
+    SAME(handling.auditing, 3);
+    SAME(handling.transaction, true);
+    SAME(handling.direct_queue, false);
+    SAME(handling.split_number.given, true);
+    SAME(handling.split_number.number, 14);
+    SAME(handling.provider_name_length, 11);
+}
+
+static void check_whole(void)
+{
+    ugb_defaulted_answer found = defaulted(whole, 1, 6, sizeof body);
+    ugb_properties p = found.properties;
+    same_refusal(found.refusal, UGB_ACCEPTED, 0);
+    check_handling(p.handling);
+    SAME(p.sender.known, true);
+    SAME(p.sender.kind, 1);
+    SAME(p.sender.default_provider, false);
+    SAME(p.sender.encryption, true);
+    SAME(p.provider_type.given, true);
+    SAME(p.provider_type.number, 0x0B0C0D0E);
+    SAME(p.message_class, 0x8009);
+    SAME(p.acknowledge, 9);
+    SAME(p.application_tag, 0x05060708);
+    SAME(p.privacy_level, 2);
+    SAME(p.hash_algorithm, 0x800C);
+    SAME(p.encryption_algorithm, 0x6610);
+    SAME(p.body_type, 0x01020304);
+    SAME(p.message_size, 10);
+    SAME(p.allocation_body_size, 77);
+    SAME(p.title, 2);
+    same_part(p.signature, 2, 3);
+    SAME(memcmp(found.correlation_id, correlation_id, 20), 0);
+}
+
+/* Nothing is given, behind no pointer; then marks that the whole request leaves out. */
+static void check_absent(void)
+{
+    static const uint8_t zeros[20];
+    ugb_request request = {0};
+    ugb_defaulted_answer found = ugb_defaulted(request, correlation_id, NULL, 0, NULL, 0, NULL, 0, NULL, 0, NULL, 0, NULL,
+                                               0, NULL, 0, NULL, 0);
+    ugb_properties p = found.properties;
+    same_refusal(found.refusal, UGB_ACCEPTED, 0);
+    SAME(p.handling.priority, 3);
+    SAME(p.handling.trace | p.handling.delivery | p.handling.auditing | p.handling.split_number.given, 0);
+    SAME(p.sender.kind | p.message_class | p.acknowledge | p.application_tag | p.privacy_level | p.body_type, 0);
+    SAME(p.hash_algorithm | p.encryption_algorithm | p.provider_type.number | p.title, 0);
+    SAME(p.message_size | p.allocation_body_size, 0);
+    SAME(memcmp(found.correlation_id, zeros, 20), 0);
+
+    request.direct_queue = true;
+    request.default_provider = true;
+    request.allocation_body_size = 77;
+    p = ugb_defaulted(request, correlation_id, NULL, 0, NULL, 0, NULL, 0, NULL, 0, NULL, 0, NULL, 0, NULL, 0, body,
+                      sizeof body)
+            .properties;
+    SAME(p.handling.direct_queue, true);
+    SAME(p.handling.transaction, false);
+    SAME(p.sender.default_provider, true);
+    SAME(p.message_size | p.allocation_body_size, 0);
+}
+
+/* Of a refusal nothing else is set. */
+static void request_refused(ugb_defaulted_answer found, uint32_t number)
+{
+    ugb_properties p = found.properties;
+    same_refusal(found.refusal, number, 0);
+    SAME(p.handling.known | p.sender.known | p.provider_type.given | p.handling.split_number.given, 0);
+    SAME(p.handling.priority | p.message_class | p.application_tag | p.title, 0);
+    SAME(p.message_size | p.allocation_body_size, 0);
+    same_part(p.signature, 0, 0);
+    SAME(found.correlation_id[19], 0);
+}
+
+static void check_refused(void)
+{
+    ugb_request q = whole;
+    q.priority.number = 8;
+    request_refused(defaulted(q, 1, 6, 10), UGB_VALUE_OUT_OF_RANGE);
+    q = whole, q.message_class.number = 0x8008;
+    request_refused(defaulted(q, 1, 6, 10), UGB_CLASS);
+    q = whole, q.privacy_level.number = 3;
+    request_refused(defaulted(q, 1, 6, 10), UGB_PRIVACY);
+    q = whole, q.direct_queue = true;
+    request_refused(defaulted(q, 1, 6, 10), UGB_PRIVACY_ON_A_DIRECT_QUEUE);
+    q = whole, q.encryption_algorithm.given = false;
+    request_refused(defaulted(q, 1, 6, 10), UGB_ALGORITHM_ABSENT);
+    q = whole, q.hash_algorithm.given = false;
+    request_refused(defaulted(q, 1, 6, 10), UGB_HASH_ABSENT);
+    q = whole, q.sender_kind.number = 2;
+    request_refused(defaulted(q, 1, 6, 10), UGB_REQUEST_IDENTITY);
+    request_refused(defaulted(whole, 0, 6, 10), UGB_REQUEST_PROVIDER);
+    q = whole, q.split_number.number = 11;
+    request_refused(defaulted(q, 1, 6, 10), UGB_SPLIT_NUMBER);
+    request_refused(defaulted(whole, 1, 65536, 10), UGB_PART_TOO_LARGE);
+    q = whole, q.allocation_body_size = 9;
+    request_refused(defaulted(q, 1, 6, 10), UGB_ALLOCATION);
+    q = whole, q.allocation_body_size = UGB_LIMIT;
+    request_refused(defaulted(q, 1, 6, UGB_LIMIT), UGB_ABOVE_THE_LIMIT);
+}
+
+static ugb_output sent(ugb_request request, size_t room)
+{
+    pattern();
+    return ugb_send(request, correlation_id, title, 4, identity, sizeof identity, key, sizeof key, signature,
+                    sizeof signature, input, 6, name, 1, input, 9, body, sizeof body, out, room);
+}
+
+/* 16 and the parts 8, 4, 4, 8, 8; 56, a label of 3 units, 9 and 10, padded. */
+static void check_sent(void)
+{
+    ugb_request q = whole;
+    ugb_reading found;
+    written(sent(whole, sizeof out), 132);
+    found = ugb_read(out, 132, true);
+    same_refusal(found.refusal, UGB_ACCEPTED, 0);
+    SAME(found.section.summary.security.fields.flags, 0x00A1);
+    SAME(found.section.summary.security.provider_type, 0x0B0C0D0E);
+    same_part(found.section.summary.security.parts.signature, 28, 3);
+    SAME(memcmp(out + 28, signature + 2, 3), 0);
+    SAME(found.section.summary.properties.flags, 9);
+    SAME(found.section.summary.properties.label_length, 3);
+    SAME(found.section.summary.properties.privacy_level, 3);
+    SAME(found.section.summary.properties.allocation_body_size, 77);
+    SAME(found.section.application_tag, 0x05060708);
+    SAME(memcmp(out + found.section.correlation_id.start, correlation_id, 20), 0);
+    SAME(memcmp(out + found.section.summary.parts.body.start, body, sizeof body), 0);
+
+    refused(sent(whole, 131), UGB_OUTPUT_SHORT, 0);
+    q.priority.number = 8;
+    refused(sent(q, sizeof out), UGB_VALUE_OUT_OF_RANGE, 0);
+}
+
+/* 01's example 11: the title's units, and LabelLength. */
+static void check_titles(void)
+{
+    static const size_t examples[4][2] = {{249, 250}, {250, 250}, {248, 249}, {0, 0}};
+    static uint16_t units[250];
+    ugb_request request = {0};
+    for (size_t i = 0; i < 250; i++)
+        units[i] = 'x';
+    for (size_t i = 0; i < 4; i++) {
+        ugb_output answer;
+        pattern();
+        answer = ugb_send(request, correlation_id, units, examples[i][0], NULL, 0, NULL, 0, NULL, 0, NULL, 0, NULL, 0,
+                          NULL, 0, NULL, 0, out, sizeof out);
+        same_refusal(answer.refusal, UGB_ACCEPTED, 0);
+        untouched_from(answer.length);
+        SAME(ugb_read(out, answer.length, false).section.summary.properties.label_length, examples[i][1]);
+    }
+}
+
+int main(void)
+{
+    check_whole();
+    check_absent();
+    check_refused();
+    check_sent();
+    check_titles();
+    report();
+    return 0;
+}

@@ -47,6 +47,7 @@ pub(crate) fn sender_values(sender: Sender) -> SenderValues
 // The bit of a mark that is set.
 fn mark(set: bool, bit: u16) -> u16
     ensures { λ r. ⌜ r ≡ cond set bit 0 ⌝ }
+    ensures { λ r. ⌜ r ≤ bit ⌝ }
 {
     if set {
         return bit;

@@ -1,7 +1,6 @@
 -- The defaulted properties of a legal request, as the values of its section.
-use Prim.Native.Nat.{ℕ, _≤_, _<_}
+use Prim.Native.Nat.{_<_}
 use mathlib.Core.Path.{_≡_, ap}
-use mathlib.Core.Bool.{Bool, true, false, cond}
 use native.Mathlib.Omega.{arith}
 use Rattle.requests.specs.Defaults.{acknowledge, class, encryption, kind, propertiesOf}
 use Rattle.requests.specs.Request.{SendRequest}
@@ -18,11 +17,6 @@ senderOf q = record { kind = kind q; «default_provider» = q .values .«default
 pub sender-known : (q : SendRequest) (p : Properties) → p ≡ propertiesOf q → p .sender ≡ Known (senderOf q)
 unfolding propertiesOf
 sender-known q p e = ap (λ (x : Properties). x .sender) e
-
--- a mark is at most its bit
-pub mark-small : (set : Bool) (bit : ℕ) → cond set bit 0 ≤ bit
-mark-small true bit = omega arith
-mark-small false bit = omega arith
 
 -- acknowledge and class fit their fields
 pub flags-fit : (q : SendRequest) (p : Properties) → Legal q → p ≡ propertiesOf q → p .acknowledge < 256

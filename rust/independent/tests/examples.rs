@@ -1,6 +1,9 @@
-//! The paper's examples 1 to 9, with content that passes S10, S11 and P7.
+//! The paper's examples 1 to 11 and the listing's, with content that passes S10, S11 and P7.
 
-use independent::{label_shown, number, read, same_summary, support_copy, Part, Refusal, LIMIT};
+use independent::queue::{read_image, write_image};
+use independent::request::{defaulted, send, Request};
+use independent::{label_shown, listing, number, read, same_summary, support_copy, write_section};
+use independent::{Part, Refusal, SectionValues, LIMIT};
 
 /// A MessagePropertiesHeader with these numbers and no parts.
 fn properties(label: u8, class: u16, extension: u32, body: u32, allocation: u32) -> Vec<u8> {
@@ -191,4 +194,121 @@ fn support_copy_keeps_only_judged_bits() {
     let mut short = vec![0x55; length - 1];
     assert_eq!(support_copy(&bytes, true, &mut short), Err(refused(number::OUTPUT_SHORT, 0)));
     assert!(short.iter().all(|&b| b == 0x55));
+}
+
+/// The length that writing `values` gives, and that the section reads back as them.
+fn written(values: SectionValues) -> Result<usize, Refusal> {
+    let mut out = vec![0x55; 700];
+    let length = write_section(&values, &mut out)?;
+    assert!(out[length..].iter().all(|&byte| byte == 0x55));
+    let section = read(&out[..length], values.security_first).unwrap();
+    assert_eq!(SectionValues::of(&section, &out), values);
+    Ok(length)
+}
+
+#[test]
+fn examples_1_to_5_written() {
+    let plain = SectionValues::default();
+    assert_eq!(written(plain), Ok(56));
+    let (three, longest, more) = (label(3), label(250), label(251));
+    let parts = SectionValues { extension: b"exten", body: b"bo", allocation_body_size: 2, ..plain };
+    assert_eq!(written(SectionValues { label: &three, ..parts }), Ok(72));
+    assert_eq!(written(SectionValues { label: &longest, ..plain }), Ok(556));
+    for message_class in [0, 0x8008] {
+        let values = SectionValues { label: &more, message_class, ..plain };
+        assert_eq!(written(values), Err(refused(number::LABEL_LENGTH, 0)));
+    }
+    assert_eq!(written(SectionValues { label: &[0, 0], ..plain }), Ok(60));
+    assert_eq!(written(SectionValues { message_class: 0x8008, ..plain }), Err(refused(number::CLASS, 0)));
+    assert_eq!(written(SectionValues { message_class: 0x8009, ..plain }), Ok(56));
+}
+
+#[test]
+fn example_6_written() {
+    let body = vec![7; 4_194_249];
+    let mut out = vec![0x55; LIMIT as usize + 4];
+    let values = |length: usize| SectionValues {
+        body: &body[..length],
+        allocation_body_size: length as u64,
+        ..Default::default()
+    };
+    assert_eq!(write_section(&values(4_194_249), &mut out), Err(refused(number::LIMIT, 0)));
+    assert_eq!(
+        write_section(&values(4_194_248), &mut out[..4_194_303]),
+        Err(refused(number::OUTPUT_SHORT, 0))
+    );
+    assert!(out.iter().all(|&byte| byte == 0x55));
+    assert_eq!(write_section(&values(4_194_248), &mut out), Ok(4_194_304));
+    assert_eq!(read(&out, false).unwrap().body, &body[..4_194_248]);
+    assert_eq!(out[4_194_304..], [0x55; 4]);
+}
+
+#[test]
+fn examples_7_to_9_written() {
+    let plain = SectionValues { security_first: true, security_flags: 0x0080, ..Default::default() };
+    let seven = SectionValues { encryption_key: b"k", sender_cert: b"ce", ..plain };
+    assert_eq!(written(seven), Ok(24 + 56));
+    let eight = SectionValues { security_flags: 0x00C2, sender_id: &[7; 16], signature: b"signe", ..plain };
+    assert_eq!(written(eight), Ok(40 + 56));
+    assert_eq!(written(SectionValues { security_flags: 0x0042, ..eight }), Err(refused(number::EMPTY, 0)));
+    let nine = SectionValues { signature: b"sign", provider_info: b"\x01\0\0\0x\0\0\0", ..plain };
+    assert_eq!(written(nine), Ok(28 + 56));
+    let six = SectionValues { provider_info: b"\x01\0\0\0\0\0", ..nine };
+    assert_eq!(written(six), Err(refused(number::PROVIDER, 0)));
+}
+
+#[test]
+fn example_10_queue_pairs() {
+    for (kind, byte, passes) in [
+        (4, 0x81, true),
+        (5, 0x84, true),
+        (8, 0x05, true),
+        (4, 0x00, false),
+        (3, 0x05, false),
+        (1, 0x82, false),
+    ] {
+        let (fixed, text): (&[u8], &[u8]) =
+            if matches!(kind, 3 | 8) { (&[], b"q\0\0\0") } else { (&[9; 16], &[]) };
+        let image = [&[kind, byte, 0, 0], fixed, text].concat();
+        let mut out = [0x55; 24];
+        let wrote = write_image(kind, byte, fixed, text, &mut out);
+        if passes {
+            assert_eq!((read_image(&image).unwrap().kind, wrote), (kind, Ok(image.len())));
+            assert_eq!(out[..image.len()], image);
+        } else {
+            assert_eq!(read_image(&image), Err(refused(number::QUEUE_PAIR, 0)));
+            assert_eq!((wrote, out), (Err(refused(number::QUEUE_PAIR, 0)), [0x55; 24]));
+        }
+    }
+}
+
+#[test]
+fn example_11_titles() {
+    for (units, label_length) in [(249, 250), (250, 250), (248, 249), (0, 0)] {
+        let title = vec![0x61; units];
+        let request = Request { title: &title, ..Request::default() };
+        assert_eq!(defaulted(&request).unwrap().title.len(), units.min(249));
+        let mut out = vec![0; 600];
+        let length = send(&request, &mut out).unwrap();
+        let section = read(&out[..length], false).unwrap();
+        assert_eq!(section.summary.properties.label_length, label_length);
+    }
+}
+
+#[test]
+fn the_listing() {
+    let mut first = properties(0, 0, 1, 3, 3);
+    first.extend_from_slice(b"ebod");
+    let mut file = vec![0x57, 0x52, 0, 0, 60, 0, 0, 0];
+    file.extend_from_slice(&first);
+    file.extend_from_slice(&[0x57, 0x52, 0, 0, 1, 0, 0, 0, 9]);
+    let mut lines = Vec::new();
+    listing::list(&file[..], &mut lines).unwrap();
+    let expected = "\
+no answer class label ext body total
+0 ok 0 0 1 3 60
+1 refused 1 0
+end 2
+";
+    assert_eq!(String::from_utf8(lines).unwrap(), expected);
 }

@@ -1,0 +1,24 @@
+//! Holds the proved library against the independent one: a header is read once by each, and the two have to agree on
+//! every input.
+//!
+//! [`side`] puts both behind one interface; [`sections`], [`writing`], [`queues`], [`requests`] and [`listing`] compare
+//! two sides on generated cases, [`sweeps`] and [`examples`] on fixed ones; [`properties`] says what has to hold of one
+//! side alone. Each takes its sides as arguments, so that a test can put a wrong one there.
+
+#![forbid(unsafe_code)]
+#![warn(missing_docs)]
+
+pub mod bits;
+pub mod examples;
+pub mod lend;
+pub mod library;
+pub mod listing;
+pub mod properties;
+pub mod queues;
+pub mod report;
+pub mod requests;
+pub mod second;
+pub mod sections;
+pub mod side;
+pub mod sweeps;
+pub mod writing;

@@ -1,0 +1,272 @@
+//! The proved library as one side, called through its safe crate; the listing through its program.
+
+use std::env;
+use std::io::{self, ErrorKind, Read, Write};
+use std::path::{Path, PathBuf};
+use std::process::{Command, Stdio};
+use std::thread;
+
+use independent::queue::Value;
+use ugbariteyo as library;
+
+use crate::side::{Answer, Defaulted, Image, Part, Parts, Reading, Refusal, Request, SectionValues};
+use crate::side::{Security, Side, Summary};
+
+/// Where the listing program lies where nothing else is said.
+const LISTING: &str = concat!(env!("CARGO_MANIFEST_DIR"), "/../../target/bin/listing");
+
+/// The proved library.
+pub struct Library {
+    listing: PathBuf,
+}
+
+impl Library {
+    /// The library with the listing program at `listing`, else where the environment's LISTING says, else in the
+    /// repository's `target/bin`.
+    pub fn new(listing: Option<PathBuf>) -> Self {
+        let listing = listing.or_else(|| env::var_os("LISTING").map(PathBuf::from));
+        Self { listing: listing.unwrap_or_else(|| LISTING.into()) }
+    }
+
+    /// The listing program, which has to be there.
+    pub fn listing(&self) -> io::Result<&Path> {
+        if self.listing.is_file() {
+            return Ok(&self.listing);
+        }
+        let place = self.listing.display();
+        let why =
+            format!("there is no listing program at {place}: build it, or say in LISTING where it lies");
+        Err(io::Error::new(ErrorKind::NotFound, why))
+    }
+}
+
+impl Side for Library {
+    fn read<'a>(&self, input: &'a [u8], security_first: bool) -> Answer<Reading<'a>> {
+        library::read(input, security_first).map(|section| reading(&section)).map_err(refusal)
+    }
+    fn summarize<'a>(&self, input: &'a [u8], security_first: bool) -> Answer<Summary<'a>> {
+        library::summarize(input, security_first).map(summary).map_err(refusal)
+    }
+    fn same_summary(&self, a: &[u8], b: &[u8], security_first: bool) -> bool {
+        library::same_summary(a, b, security_first)
+    }
+    fn label_shown<'a>(&self, input: &'a [u8], security_first: bool, stand_in: &'a [u8]) -> &'a [u8] {
+        library::label_shown(input, security_first, stand_in)
+    }
+    fn support_copy(&self, input: &[u8], security_first: bool, out: &mut [u8]) -> Answer<usize> {
+        library::support_copy(input, security_first, out).map_err(refusal)
+    }
+    fn write_section(&self, values: &SectionValues<'_>, out: &mut [u8]) -> Answer<usize> {
+        library::write_section(&section_values(values), out).map_err(refusal)
+    }
+    fn write_again(&self, input: &[u8], security_first: bool, out: &mut [u8]) -> Answer<usize> {
+        let section = library::read(input, security_first).map_err(refusal)?;
+        library::write_section(&library::SectionValues::from(&section), out).map_err(refusal)
+    }
+    fn read_image<'a>(&self, input: &'a [u8]) -> Answer<Image<'a>> {
+        library::read_image(input).map(image).map_err(refusal)
+    }
+    fn write_image(&self, format: [u8; 2], fixed: &[u8], text: &[u8], out: &mut [u8]) -> Answer<usize> {
+        let format = library::QueueFormat { kind: format[0], suffix_and_flags: format[1] };
+        library::write_image(format, fixed, text, out).map_err(refusal)
+    }
+    fn defaulted<'a>(&self, values: &Request<'a>) -> Answer<Defaulted<'a>> {
+        library::defaulted(&request(values)).map(defaulted).map_err(refusal)
+    }
+    fn send(&self, values: &Request<'_>, out: &mut [u8]) -> Answer<usize> {
+        library::send(&request(values), out).map_err(refusal)
+    }
+    fn list(&self, file: &[u8]) -> io::Result<Vec<u8>> {
+        let mut program =
+            Command::new(self.listing()?).stdin(Stdio::piped()).stdout(Stdio::piped()).spawn()?;
+        let mut stdin = program.stdin.take().expect("the input is a pipe");
+        let mut stdout = program.stdout.take().expect("the output is a pipe");
+        let mut lines = Vec::new();
+        thread::scope(|threads| {
+            let fed = threads.spawn(move || stdin.write_all(file));
+            stdout.read_to_end(&mut lines)?;
+            match fed.join().expect("feeding does not panic") {
+                // it may stop before the end
+                Err(error) if error.kind() != ErrorKind::BrokenPipe => Err(error),
+                _ => Ok(()),
+            }
+        })?;
+        let status = program.wait()?;
+        if status.code().is_none() {
+            return Err(io::Error::other(format!("the listing program ended with {status}")));
+        }
+        Ok(lines)
+    }
+}
+
+fn refusal(refusal: library::Refusal) -> Refusal {
+    Refusal { number: refusal.number, place: refusal.place }
+}
+
+fn part(part: library::Part) -> Part {
+    Part { start: part.start, length: part.length }
+}
+
+fn reading<'a>(section: &library::Reading<'a>) -> Reading<'a> {
+    Reading {
+        summary: summary(section.summary()),
+        correlation_id: section.correlation_id(),
+        application_tag: section.application_tag(),
+        parts: [
+            section.sender_id(),
+            section.encryption_key(),
+            section.signature(),
+            section.sender_cert(),
+            section.provider_info(),
+            section.label(),
+            section.extension(),
+            section.body(),
+        ],
+    }
+}
+
+fn summary(summary: library::Summary<'_>) -> Summary<'_> {
+    let mut parts = Parts {
+        label: part(summary.label_part),
+        extension: part(summary.extension),
+        body: part(summary.body),
+        ..Parts::default()
+    };
+    let security = summary.security.map(|header| security(&header, &mut parts));
+    Summary {
+        security,
+        flags: summary.flags.0,
+        label_length: summary.label_length.0,
+        message_class: summary.message_class,
+        body_type: summary.body_type,
+        message_size: summary.message_size as u64,
+        allocation_body_size: summary.allocation_body_size as u64,
+        privacy_level: summary.privacy_level,
+        hash_algorithm: summary.hash_algorithm,
+        encryption_algorithm: summary.encryption_algorithm,
+        extension_size: summary.extension_size as u64,
+        authentication_fails: summary.authentication_fails,
+        decryption_fails: summary.decryption_fails,
+        parts,
+        length: summary.section_length,
+        label: summary.label.bytes(),
+    }
+}
+
+/// The SecurityHeader; its parts go into `parts`.
+fn security<'a>(header: &library::Security<'a>, parts: &mut Parts) -> Security<'a> {
+    parts.identity = part(header.sender_id);
+    parts.key = part(header.encryption_key);
+    parts.signature = part(header.signature);
+    parts.certificate = part(header.sender_cert);
+    parts.provider = part(header.provider_info);
+    let five = [parts.identity, parts.key, parts.signature, parts.certificate, parts.provider];
+    Security {
+        flags: header.flags.0,
+        sizes: five.map(|part| part.length as u64),
+        sid: [header.sid_revision, header.sid_sub_authority_count],
+        length: header.length,
+        provider_type: header.provider_type,
+        provider_name: header.provider_name.bytes(),
+    }
+}
+
+/// The values as the library takes them.
+pub fn section_values<'a>(values: &SectionValues<'a>) -> library::SectionValues<'a> {
+    library::SectionValues {
+        security_first: values.security_first,
+        security_flags: library::SecurityFlags(values.security_flags),
+        sender_id: values.sender_id,
+        encryption_key: values.encryption_key,
+        signature: values.signature,
+        sender_cert: values.sender_cert,
+        provider_info: values.provider_info,
+        flags: library::PropertiesFlags(values.flags),
+        message_class: values.message_class,
+        correlation_id: values.correlation_id,
+        body_type: values.body_type,
+        application_tag: values.application_tag,
+        allocation_body_size: values.allocation_body_size as usize,
+        privacy_level: values.privacy_level,
+        hash_algorithm: values.hash_algorithm,
+        encryption_algorithm: values.encryption_algorithm,
+        label: values.label,
+        extension: values.extension,
+        body: values.body,
+    }
+}
+
+fn image(image: library::Image<'_>) -> Image<'_> {
+    let value = match image.value {
+        library::Value::Nothing => Value::None,
+        library::Value::Guid(guid) => Value::Guid(guid),
+        library::Value::ObjectId(id) => Value::ObjectId(id),
+        library::Value::MulticastId(id) => Value::MulticastId(id),
+        library::Value::Text(text) => Value::Text(text.bytes()),
+        library::Value::GuidAndText(guid, text) => Value::GuidAndText(guid, text.bytes()),
+    };
+    Image { kind: image.format.kind, suffix_and_flags: image.format.suffix_and_flags, value }
+}
+
+/// The request as the library takes it.
+pub fn request<'a>(request: &Request<'a>) -> library::Request<'a> {
+    library::Request {
+        priority: request.priority,
+        trace: request.trace,
+        delivery: request.delivery,
+        auditing: request.auditing,
+        message_class: request.class,
+        acknowledge: request.acknowledge,
+        application_tag: request.application_tag,
+        privacy_level: request.privacy_level,
+        hash_algorithm: request.hash_algorithm,
+        encryption_algorithm: request.encryption_algorithm,
+        body_type: request.body_type,
+        sender_kind: request.sender_kind,
+        provider_type: request.provider_type,
+        split_number: request.split_number,
+        provider_name_length: request.provider_name_length,
+        correlation_id: request.correlation_id,
+        transaction: request.transaction,
+        direct_queue: request.direct_queue,
+        default_provider: request.default_provider,
+        encryption: request.encryption,
+        title: request.title,
+        sender_id: request.sender_id,
+        encryption_key: request.encryption_key,
+        signature: request.signature,
+        sender_cert: request.sender_cert,
+        provider_name: request.provider_name,
+        extension: request.extension,
+        body: request
+            .body
+            .map(|(bytes, allocation)| library::Body { bytes, allocation: allocation as usize }),
+    }
+}
+
+fn defaulted(values: library::Properties<'_>) -> Defaulted<'_> {
+    let handling = values.handling.expect("a request's handling is known");
+    let sender = values.sender.expect("a request's sender is known");
+    Defaulted {
+        handling: [handling.priority, handling.trace, handling.delivery, handling.auditing],
+        transaction: handling.transaction,
+        direct_queue: handling.direct_queue,
+        split_number: handling.split_number,
+        provider_name_length: handling.provider_name_length,
+        sender_kind: sender.kind,
+        default_provider: sender.default_provider,
+        encryption: sender.encryption,
+        provider_type: values.provider_type.expect("a request's provider type is known"),
+        class: values.message_class,
+        acknowledge: values.acknowledge,
+        application_tag: values.application_tag,
+        privacy_level: values.privacy_level,
+        hash_algorithm: values.hash_algorithm,
+        encryption_algorithm: values.encryption_algorithm,
+        body_type: values.body_type,
+        body_sizes: [values.message_size as u64, values.allocation_body_size as u64],
+        correlation_id: values.correlation_id,
+        title: values.title,
+        signature: values.signature,
+    }
+}

@@ -1,0 +1,105 @@
+//! `compare [FACTOR] [SEED] [LISTING]`: holds the proved library against the independent one on generated cases.
+//!
+//! FACTOR multiplies the number of cases. SEED is a number, or `random` for one from the clock. LISTING is the listing
+//! program, else the environment's LISTING, else `target/bin/listing` of the repository. The exit status is 1 where
+//! anything differs.
+
+use std::env;
+use std::io;
+use std::path::PathBuf;
+use std::process::ExitCode;
+use std::time::{SystemTime, UNIX_EPOCH};
+
+use compare::library::Library;
+use compare::report::{Tally, HEADER};
+use compare::second::Independent;
+use compare::side::Sides;
+use compare::{examples, listing, properties, queues, requests, sections, sweeps, writing};
+use independent::generate::Random;
+
+/// The seed where none is given.
+const SEED: u64 = 0x57_52;
+/// The refusals of a section that is read.
+const SECTION: [u32; 12] = [1, 2, 3, 4, 5, 6, 7, 8, 9, 10, 11, 12];
+/// The refusals of a section that is written.
+const WRITER: [u32; 12] = [2, 3, 4, 6, 7, 8, 9, 10, 11, 12, 13, 28];
+/// The refusals of a request.
+const REQUEST: [u32; 13] = [8, 10, 11, 13, 20, 21, 22, 23, 24, 25, 26, 27, 28];
+
+/// What is to be run.
+struct Arguments {
+    factor: u64,
+    seed: u64,
+    library: Library,
+}
+
+impl Arguments {
+    fn parse(mut given: impl Iterator<Item = String>) -> Result<Self, String> {
+        let number = |what: &str, text: &str| {
+            text.parse().map_err(|_| format!("{what} is to be a number, not `{text}`"))
+        };
+        let factor = given.next().map_or(Ok(1), |text| number("FACTOR", &text))?;
+        let seed = match given.next().as_deref() {
+            None => SEED,
+            Some("random") => clock(),
+            Some(text) => number("SEED", text)?,
+        };
+        let library = Library::new(given.next().map(PathBuf::from));
+        Ok(Self { factor, seed, library })
+    }
+}
+
+fn clock() -> u64 {
+    SystemTime::now().duration_since(UNIX_EPOCH).map_or(SEED, |since| since.as_nanos() as u64)
+}
+
+fn main() -> ExitCode {
+    let arguments = match Arguments::parse(env::args().skip(1)) {
+        Ok(arguments) => arguments,
+        Err(why) => {
+            eprintln!("compare: {why}");
+            return ExitCode::FAILURE;
+        }
+    };
+    match run(arguments) {
+        Ok(0) => ExitCode::SUCCESS,
+        Ok(_) => ExitCode::FAILURE,
+        Err(error) => {
+            eprintln!("compare: {error}");
+            ExitCode::FAILURE
+        }
+    }
+}
+
+/// Runs every kind and prints its line; gives the number of differences.
+fn run(arguments: Arguments) -> io::Result<u64> {
+    let Arguments { factor, seed, library } = arguments;
+    library.listing()?;
+    println!("seed {seed}, factor {factor}");
+    println!("{HEADER}");
+    let mut seeds = Random::new(seed);
+    let mut generator = || Random::new(seeds.word());
+    let sides = Sides { one: &library, other: &Independent };
+    let (mut cases, mut differences) = (0, 0);
+    let mut print = |mut tally: Tally, refusals: &[u32]| {
+        tally.has_met(refusals);
+        println!("{tally}");
+        tally.first().iter().for_each(|difference| println!("  {difference}"));
+        cases += tally.cases();
+        differences += tally.differences();
+    };
+
+    print(examples::run(sides), &[]);
+    let [sections, other_way] = sections::run(sides, 1_000_000 * factor, &mut generator());
+    print(sections, &SECTION);
+    print(other_way, &SECTION);
+    print(sweeps::run(sides, &mut generator()), &[]);
+    print(properties::run(&library, 500_000 * factor, &mut generator()), &SECTION);
+    print(writing::run(sides, 300_000 * factor, &mut generator()), &WRITER);
+    print(queues::run_reading(sides, 300_000 * factor, &mut generator()), &[1, 30, 31, 32, 33]);
+    print(queues::run_writing(sides, 300_000 * factor, &mut generator()), &[13, 30, 31, 32, 33]);
+    print(requests::run(sides, 300_000 * factor, &mut generator()), &REQUEST);
+    print(listing::run(sides, 100_000 * factor, &mut generator())?, &SECTION);
+    println!("{cases} cases, {differences} differences");
+    Ok(differences)
+}

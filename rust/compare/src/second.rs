@@ -1,0 +1,142 @@
+//! The independent library as one side.
+
+use std::io;
+
+use independent::{queue, request};
+
+use crate::side::{part_of, Answer, Defaulted, Image, Reading, Request, Section, SectionValues};
+use crate::side::{Security, Side, Summary};
+
+/// The independent reader and writer.
+pub struct Independent;
+
+impl Side for Independent {
+    fn read<'a>(&self, input: &'a [u8], security_first: bool) -> Answer<Reading<'a>> {
+        independent::read(input, security_first).map(|section| reading(&section, input))
+    }
+    fn summarize<'a>(&self, input: &'a [u8], security_first: bool) -> Answer<Summary<'a>> {
+        independent::read(input, security_first).map(|section| summary(&section))
+    }
+    fn same_summary(&self, a: &[u8], b: &[u8], security_first: bool) -> bool {
+        independent::same_summary(a, b, security_first)
+    }
+    fn label_shown<'a>(&self, input: &'a [u8], security_first: bool, stand_in: &'a [u8]) -> &'a [u8] {
+        independent::label_shown(input, security_first, stand_in)
+    }
+    fn support_copy(&self, input: &[u8], security_first: bool, out: &mut [u8]) -> Answer<usize> {
+        independent::support_copy(input, security_first, out)
+    }
+    fn write_section(&self, values: &SectionValues<'_>, out: &mut [u8]) -> Answer<usize> {
+        independent::write_section(values, out)
+    }
+    fn write_again(&self, input: &[u8], security_first: bool, out: &mut [u8]) -> Answer<usize> {
+        let section = independent::read(input, security_first)?;
+        independent::write_section(&SectionValues::of(&section, input), out)
+    }
+    fn read_image<'a>(&self, input: &'a [u8]) -> Answer<Image<'a>> {
+        queue::read_image(input)
+    }
+    fn write_image(&self, format: [u8; 2], fixed: &[u8], text: &[u8], out: &mut [u8]) -> Answer<usize> {
+        queue::write_image(format[0], format[1], fixed, text, out)
+    }
+    fn defaulted<'a>(&self, request: &Request<'a>) -> Answer<Defaulted<'a>> {
+        request::defaulted(request).map(defaulted)
+    }
+    fn send(&self, request: &Request<'_>, out: &mut [u8]) -> Answer<usize> {
+        request::send(request, out)
+    }
+    fn list(&self, file: &[u8]) -> io::Result<Vec<u8>> {
+        let mut lines = Vec::new();
+        independent::listing::list(file, &mut lines)?;
+        Ok(lines)
+    }
+}
+
+/// A reading of `input` by the independent library.
+pub fn reading<'a>(section: &Section<'a>, input: &'a [u8]) -> Reading<'a> {
+    Reading {
+        summary: summary(section),
+        correlation_id: section.correlation_id,
+        application_tag: section.application_tag,
+        parts: [
+            section.identity,
+            section.key,
+            section.signature,
+            section.certificate,
+            part_of(section.summary.parts.provider, input),
+            section.summary.properties.label,
+            section.extension,
+            section.body,
+        ],
+    }
+}
+
+/// The summary in a reading by the independent library.
+pub fn summary<'a>(section: &Section<'a>) -> Summary<'a> {
+    let independent::Summary { properties, parts, length, .. } = section.summary;
+    Summary {
+        security: section.summary.security.map(|header| security(&header, section)),
+        flags: properties.flags,
+        label_length: properties.label_length.into(),
+        message_class: properties.class,
+        body_type: properties.body_type,
+        message_size: properties.message_size.into(),
+        allocation_body_size: properties.allocation.into(),
+        privacy_level: properties.privacy,
+        hash_algorithm: properties.hash,
+        encryption_algorithm: properties.encryption,
+        extension_size: properties.extension_size.into(),
+        authentication_fails: section.summary.authentication_fails,
+        decryption_fails: section.summary.decryption_fails,
+        parts,
+        length,
+        label: properties.label,
+    }
+}
+
+fn security<'a>(header: &independent::Security<'a>, section: &Section<'a>) -> Security<'a> {
+    let sid = match (header.flags.sender_kind(), section.identity) {
+        (1, &[revision, count, ..]) => [revision, count],
+        _ => [0, 0],
+    };
+    Security {
+        flags: header.flags.bits(),
+        sizes: [
+            header.identity_size.into(),
+            header.key_size.into(),
+            header.signature_size.into(),
+            header.certificate_size.into(),
+            header.provider_size.into(),
+        ],
+        sid,
+        length: section.summary.parts.label.start - independent::PROPERTIES_FIXED,
+        provider_type: header.provider_type,
+        provider_name: header.provider_name,
+    }
+}
+
+/// The defaulted values by the independent library.
+pub fn defaulted(values: request::Properties<'_>) -> Defaulted<'_> {
+    Defaulted {
+        handling: [values.priority, values.trace, values.delivery, values.auditing],
+        transaction: values.transaction,
+        direct_queue: values.direct_queue,
+        split_number: values.split_number,
+        provider_name_length: values.provider_name_length,
+        sender_kind: values.sender_kind,
+        default_provider: values.default_provider,
+        encryption: values.encryption,
+        provider_type: values.provider_type,
+        class: values.class,
+        acknowledge: values.acknowledge,
+        application_tag: values.application_tag,
+        privacy_level: values.privacy_level,
+        hash_algorithm: values.hash_algorithm,
+        encryption_algorithm: values.encryption_algorithm,
+        body_type: values.body_type,
+        body_sizes: [values.body.len() as u64, values.allocation],
+        correlation_id: values.correlation_id,
+        title: values.title,
+        signature: values.signature,
+    }
+}

@@ -1,0 +1,180 @@
+//! The two libraries behind one interface, with what they answer in the same types.
+
+use std::fmt::Debug;
+use std::io;
+
+pub use independent::queue::Image;
+pub use independent::request::Request;
+pub use independent::{Part, Parts, Refusal, Section, SectionValues};
+
+use crate::report::{agree, Difference};
+
+/// An answer or a refusal.
+pub type Answer<T> = Result<T, Refusal>;
+
+/// What is judged of a SecurityHeader.
+#[derive(Debug, Clone, Copy, PartialEq, Eq)]
+pub struct Security<'a> {
+    /// Flags, bits 0 to 11.
+    pub flags: u16,
+    /// The five sizes, in their order.
+    pub sizes: [u64; 5],
+    /// The first two identity bytes for ST 1, else 0.
+    pub sid: [u8; 2],
+    /// The header's length.
+    pub length: usize,
+    /// The provider's type, where there is provider info.
+    pub provider_type: Option<u32>,
+    /// The provider's name, its null included.
+    pub provider_name: &'a [u8],
+}
+
+/// What is judged of a section.
+#[derive(Debug, Clone, Copy, PartialEq, Eq)]
+pub struct Summary<'a> {
+    /// The SecurityHeader, where one stands first.
+    pub security: Option<Security<'a>>,
+    /// Flags, bits 0 to 3.
+    pub flags: u8,
+    /// LabelLength.
+    pub label_length: u32,
+    /// MessageClass.
+    pub message_class: u16,
+    /// BodyType.
+    pub body_type: u32,
+    /// MessageSize.
+    pub message_size: u64,
+    /// AllocationBodySize.
+    pub allocation_body_size: u64,
+    /// PrivacyLevel.
+    pub privacy_level: u32,
+    /// HashAlgorithm.
+    pub hash_algorithm: u32,
+    /// EncryptionAlgorithm.
+    pub encryption_algorithm: u32,
+    /// ExtensionSize.
+    pub extension_size: u64,
+    /// The verdict "authentication fails".
+    pub authentication_fails: bool,
+    /// The verdict "decryption fails".
+    pub decryption_fails: bool,
+    /// Start and length of each part.
+    pub parts: Parts,
+    /// The section's length.
+    pub length: usize,
+    /// The label, its null included.
+    pub label: &'a [u8],
+}
+
+/// The full reading.
+#[derive(Debug, Clone, Copy, PartialEq, Eq)]
+pub struct Reading<'a> {
+    /// What is judged.
+    pub summary: Summary<'a>,
+    /// CorrelationID.
+    pub correlation_id: &'a [u8; 20],
+    /// ApplicationTag.
+    pub application_tag: u32,
+    /// The bytes of the parts: identity, key, signature, certificate, provider info, label, extension, body.
+    pub parts: [&'a [u8]; 8],
+}
+
+/// The defaulted values of a request: numbers, and what is kept of title and signature.
+#[derive(Debug, Clone, Copy, PartialEq, Eq)]
+pub struct Defaulted<'a> {
+    /// Priority, trace, delivery, auditing.
+    pub handling: [u32; 4],
+    /// The message belongs to a transaction.
+    pub transaction: bool,
+    /// The queue was opened by a direct format name.
+    pub direct_queue: bool,
+    /// The split number.
+    pub split_number: Option<u32>,
+    /// The name length that goes with the split number.
+    pub provider_name_length: u32,
+    /// The kind of sender identity.
+    pub sender_kind: u32,
+    /// The default provider.
+    pub default_provider: bool,
+    /// Encryption, asked for and with a key.
+    pub encryption: bool,
+    /// The provider's type.
+    pub provider_type: u32,
+    /// The message class.
+    pub class: u32,
+    /// Acknowledge.
+    pub acknowledge: u32,
+    /// The application's tag.
+    pub application_tag: u32,
+    /// The request's privacy.
+    pub privacy_level: u32,
+    /// The hash algorithm.
+    pub hash_algorithm: u32,
+    /// The encryption algorithm.
+    pub encryption_algorithm: u32,
+    /// The body's type.
+    pub body_type: u32,
+    /// The body's bytes and its allocation.
+    pub body_sizes: [u64; 2],
+    /// The correlation identifier.
+    pub correlation_id: [u8; 20],
+    /// The title as cut, without its null.
+    pub title: &'a [u16],
+    /// The signature as cut.
+    pub signature: &'a [u8],
+}
+
+/// A library: everything that it can be asked.
+pub trait Side {
+    /// The full reading of a section.
+    fn read<'a>(&self, input: &'a [u8], security_first: bool) -> Answer<Reading<'a>>;
+    /// The summary of a section.
+    fn summarize<'a>(&self, input: &'a [u8], security_first: bool) -> Answer<Summary<'a>>;
+    /// Whether both are accepted and their summaries are the same.
+    fn same_summary(&self, a: &[u8], b: &[u8], security_first: bool) -> bool;
+    /// The label for display.
+    fn label_shown<'a>(&self, input: &'a [u8], security_first: bool, stand_in: &'a [u8]) -> &'a [u8];
+    /// The support copy.
+    fn support_copy(&self, input: &[u8], security_first: bool, out: &mut [u8]) -> Answer<usize>;
+    /// The section of these values.
+    fn write_section(&self, values: &SectionValues<'_>, out: &mut [u8]) -> Answer<usize>;
+    /// The section written from what is read of `input`.
+    fn write_again(&self, input: &[u8], security_first: bool, out: &mut [u8]) -> Answer<usize>;
+    /// A queue format image read.
+    fn read_image<'a>(&self, input: &'a [u8]) -> Answer<Image<'a>>;
+    /// A queue format image written: type, suffix and flags, the value's fixed bytes and its string.
+    fn write_image(&self, format: [u8; 2], fixed: &[u8], text: &[u8], out: &mut [u8]) -> Answer<usize>;
+    /// The defaulted values of a request.
+    fn defaulted<'a>(&self, request: &Request<'a>) -> Answer<Defaulted<'a>>;
+    /// The section of a request.
+    fn send(&self, request: &Request<'_>, out: &mut [u8]) -> Answer<usize>;
+    /// The listing of a day file.
+    fn list(&self, file: &[u8]) -> io::Result<Vec<u8>>;
+}
+
+/// The two libraries that are held against each other.
+#[derive(Clone, Copy)]
+pub struct Sides<'s> {
+    /// The one.
+    pub one: &'s dyn Side,
+    /// The other.
+    pub other: &'s dyn Side,
+}
+
+impl Sides<'_> {
+    /// What both answer to `ask`, or how they differ.
+    pub fn both<T: PartialEq + Debug>(
+        &self,
+        what: &str,
+        ask: impl Fn(&dyn Side) -> T,
+    ) -> Result<T, Difference> {
+        let answer = ask(self.one);
+        agree(what, &answer, &ask(self.other))?;
+        Ok(answer)
+    }
+}
+
+/// The bytes of a part of `input`.
+pub fn part_of(part: Part, input: &[u8]) -> &[u8] {
+    &input[part.start..part.start + part.length]
+}

@@ -1,0 +1,223 @@
+//! Each kind of comparison holds for the independent library, and finds the wrong versions that are planted in it.
+
+use std::io;
+
+use compare::library::Library;
+use compare::report::Tally;
+use compare::second::{defaulted, reading, summary, Independent};
+use compare::side::{Answer, Defaulted, Image, Reading, Request, SectionValues, Side, Sides, Summary};
+use compare::{examples, listing, properties, queues, requests, sections, sweeps, writing};
+use independent::generate::Random;
+use independent::planted;
+
+/// The generated cases of a kind.
+const CASES: u64 = 4_000;
+
+/// The one function that is wrong.
+#[derive(Debug, Clone, Copy, PartialEq)]
+enum Fault {
+    /// The extension is padded before the body.
+    Read,
+    /// Private bits count.
+    SameSummary,
+    /// A label of one unit is taken for none.
+    LabelShown,
+    /// X bits are copied.
+    SupportCopy,
+    /// The label's bytes are counted for its units.
+    WriteSection,
+    /// The reserved bytes are judged.
+    ReadImage,
+    /// The reserved bytes are left.
+    WriteImage,
+    /// A transaction leaves delivery as it is.
+    Defaulted,
+    /// Privacy 2 is copied.
+    Send,
+    /// The label's bytes are counted for its units.
+    List,
+    /// Every refusal changes a lent byte.
+    Refusal,
+}
+
+/// The independent library with one wrong function.
+struct Planted(Fault);
+
+impl Planted {
+    /// What was written, with a byte changed by a refusal where that is the fault.
+    fn written(&self, answer: Answer<usize>, out: &mut [u8]) -> Answer<usize> {
+        if let (Fault::Refusal, Err(_), [first, ..]) = (self.0, answer, out) {
+            *first ^= 1;
+        }
+        answer
+    }
+}
+
+impl Side for Planted {
+    fn read<'a>(&self, input: &'a [u8], security_first: bool) -> Answer<Reading<'a>> {
+        match self.0 {
+            Fault::Read => planted::read(input, security_first).map(|section| reading(&section, input)),
+            _ => Independent.read(input, security_first),
+        }
+    }
+    fn summarize<'a>(&self, input: &'a [u8], security_first: bool) -> Answer<Summary<'a>> {
+        match self.0 {
+            Fault::Read => planted::read(input, security_first).map(|section| summary(&section)),
+            _ => Independent.summarize(input, security_first),
+        }
+    }
+    fn same_summary(&self, a: &[u8], b: &[u8], security_first: bool) -> bool {
+        Independent.same_summary(a, b, security_first) && (self.0 != Fault::SameSummary || a == b)
+    }
+    fn label_shown<'a>(&self, input: &'a [u8], security_first: bool, stand_in: &'a [u8]) -> &'a [u8] {
+        match Independent.label_shown(input, security_first, stand_in) {
+            [0, 0] if self.0 == Fault::LabelShown => stand_in,
+            shown => shown,
+        }
+    }
+    fn support_copy(&self, input: &[u8], security_first: bool, out: &mut [u8]) -> Answer<usize> {
+        let answer = match self.0 {
+            Fault::SupportCopy => planted::support_copy(input, security_first, out),
+            _ => Independent.support_copy(input, security_first, out),
+        };
+        self.written(answer, out)
+    }
+    fn write_section(&self, values: &SectionValues<'_>, out: &mut [u8]) -> Answer<usize> {
+        let answer = match self.0 {
+            Fault::WriteSection => planted::write_section(values, out),
+            _ => Independent.write_section(values, out),
+        };
+        self.written(answer, out)
+    }
+    fn write_again(&self, input: &[u8], security_first: bool, out: &mut [u8]) -> Answer<usize> {
+        let section = independent::read(input, security_first)?;
+        self.write_section(&SectionValues::of(&section, input), out)
+    }
+    fn read_image<'a>(&self, input: &'a [u8]) -> Answer<Image<'a>> {
+        match self.0 {
+            Fault::ReadImage => planted::read_image(input),
+            _ => Independent.read_image(input),
+        }
+    }
+    fn write_image(&self, format: [u8; 2], fixed: &[u8], text: &[u8], out: &mut [u8]) -> Answer<usize> {
+        let answer = match self.0 {
+            Fault::WriteImage => planted::write_image(format[0], format[1], fixed, text, out),
+            _ => Independent.write_image(format, fixed, text, out),
+        };
+        self.written(answer, out)
+    }
+    fn defaulted<'a>(&self, request: &Request<'a>) -> Answer<Defaulted<'a>> {
+        match self.0 {
+            Fault::Defaulted => planted::defaulted(request).map(defaulted),
+            _ => Independent.defaulted(request),
+        }
+    }
+    fn send(&self, request: &Request<'_>, out: &mut [u8]) -> Answer<usize> {
+        let answer = match self.0 {
+            Fault::Send => planted::send(request, out),
+            _ => Independent.send(request, out),
+        };
+        self.written(answer, out)
+    }
+    fn list(&self, file: &[u8]) -> io::Result<Vec<u8>> {
+        if self.0 != Fault::List {
+            return Independent.list(file);
+        }
+        let mut lines = Vec::new();
+        planted::list(file, &mut lines)?;
+        Ok(lines)
+    }
+}
+
+/// That the kind of comparison which `run` makes holds for the independent library and finds each fault in it.
+fn finds(faults: &[Fault], run: impl Fn(Sides<'_>) -> Tally) {
+    let library = Library::new(None);
+    let faithful = run(Sides { one: &library, other: &Independent });
+    assert_eq!(faithful.differences(), 0, "{:#?}", faithful.first());
+    for &fault in faults {
+        let wrong = run(Sides { one: &library, other: &Planted(fault) });
+        assert!(wrong.differences() > 0, "{fault:?} is not found: {wrong}");
+    }
+}
+
+#[test]
+fn sections_read_and_copied() {
+    use Fault::{LabelShown, Read, Refusal, SameSummary, SupportCopy, WriteSection};
+    finds(&[Read, SameSummary, LabelShown, SupportCopy, WriteSection, Refusal], |sides| {
+        let [sections, _] = sections::run(sides, CASES, &mut Random::new(1));
+        sections
+    });
+}
+
+#[test]
+fn sections_swept() {
+    finds(&[Fault::Read], |sides| sweeps::run(sides, &mut Random::new(2)));
+}
+
+#[test]
+fn demand_3_of_one_side() {
+    let run = |side: &dyn Side| properties::run(side, CASES, &mut Random::new(3));
+    assert_eq!(run(&Independent).differences(), 0);
+    for fault in [Fault::SameSummary, Fault::SupportCopy, Fault::Refusal] {
+        assert!(run(&Planted(fault)).differences() > 0, "{fault:?}");
+    }
+}
+
+#[test]
+fn section_values_written() {
+    finds(&[Fault::WriteSection, Fault::Refusal], |sides| writing::run(sides, CASES, &mut Random::new(4)));
+}
+
+#[test]
+fn queue_images_read() {
+    finds(&[Fault::ReadImage], |sides| queues::run_reading(sides, CASES, &mut Random::new(5)));
+}
+
+#[test]
+fn queue_values_written() {
+    finds(&[Fault::WriteImage, Fault::Refusal], |sides| {
+        queues::run_writing(sides, CASES, &mut Random::new(6))
+    });
+}
+
+#[test]
+fn requests_sent() {
+    finds(&[Fault::Defaulted, Fault::Send, Fault::Refusal], |sides| {
+        requests::run(sides, CASES, &mut Random::new(7))
+    });
+}
+
+#[test]
+fn day_files_listed() {
+    finds(&[Fault::List], |sides| {
+        listing::run(sides, CASES, &mut Random::new(8)).expect("the listing program runs")
+    });
+}
+
+/// Where both sides are wrong in the same way, what has to hold of one side alone tells.
+#[test]
+fn the_same_fault_on_both_sides() {
+    type Run = fn(Sides<'_>) -> Tally;
+    let sections: Run = |sides| sections::run(sides, CASES, &mut Random::new(9)).into_iter().next().unwrap();
+    let writing: Run = |sides| writing::run(sides, CASES, &mut Random::new(9));
+    let reading_images: Run = |sides| queues::run_reading(sides, CASES, &mut Random::new(9));
+    let requests: Run = |sides| requests::run(sides, CASES, &mut Random::new(9));
+    for (fault, run) in [
+        (Fault::Read, sections),
+        (Fault::SameSummary, sections),
+        (Fault::Refusal, sections),
+        (Fault::WriteSection, writing),
+        (Fault::WriteImage, reading_images),
+        (Fault::Send, requests),
+        (Fault::Refusal, requests),
+    ] {
+        assert_eq!(run(Sides { one: &Independent, other: &Independent }).differences(), 0);
+        let wrong = run(Sides { one: &Planted(fault), other: &Planted(fault) });
+        assert!(wrong.differences() > 0, "{fault:?} is not found: {wrong}");
+    }
+}
+
+#[test]
+fn examples_of_the_paper() {
+    finds(&[Fault::Read, Fault::WriteSection], examples::run);
+}

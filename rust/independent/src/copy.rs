@@ -1,0 +1,54 @@
+//! The support copy, the comparison of summaries and the label for display.
+
+use crate::section::{Part, Summary, PROPERTIES_FIXED, SECURITY_FIXED};
+use crate::steps::room;
+use crate::{read, Refusal};
+
+/// Writes the section with every private bit zero to the start of `out` and gives its length.
+/// "Refused as reading is, then 13"; a refusal writes nothing.
+pub fn support_copy(input: &[u8], security_first: bool, out: &mut [u8]) -> Result<usize, Refusal> {
+    let section = read(input, security_first)?;
+    let Summary { security, parts, length, .. } = section.summary;
+    let copy = room(out, length)?;
+    copy.fill(0);
+    let mut keep = |part: Part| {
+        let range = part.start..part.start + part.length;
+        copy[range.clone()].copy_from_slice(&input[range]);
+    };
+
+    if let Some(security) = security {
+        keep(Part { start: 0, length: SECURITY_FIXED });
+        if security.flags.sender_kind() == 1 {
+            keep(Part { start: parts.identity.start, length: 2 });
+        }
+        keep(parts.provider);
+    }
+    let at = parts.label.start - PROPERTIES_FIXED;
+    keep(Part { start: at, length: 4 });
+    keep(Part { start: at + 24, length: 4 });
+    keep(Part { start: at + 32, length: 24 });
+    keep(parts.label);
+
+    if security.is_some() {
+        copy[1] &= 0x0F;
+    }
+    copy[at] &= 0x0F;
+    Ok(length)
+}
+
+/// Whether both inputs are accepted and their summaries are the same.
+pub fn same_summary(a: &[u8], b: &[u8], security_first: bool) -> bool {
+    match (read(a, security_first), read(b, security_first)) {
+        (Ok(a), Ok(b)) => a.summary == b.summary,
+        _ => false,
+    }
+}
+
+/// The label for display: the section's own part as it lies, or `stand_in` where there is no
+/// label or reading is refused.
+pub fn label_shown<'a>(input: &'a [u8], security_first: bool, stand_in: &'a [u8]) -> &'a [u8] {
+    match read(input, security_first) {
+        Ok(section) if section.summary.properties.label_length != 0 => section.summary.properties.label,
+        _ => stand_in,
+    }
+}

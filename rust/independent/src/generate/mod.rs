@@ -1,0 +1,19 @@
+//! Cases made at random for comparing two libraries: legal ones, ones that break a chosen step or
+//! stand at its boundary, and damaged ones. The same seed gives the same cases. Cases of more than
+//! about 64 KB are rare, so that many cases take little time.
+
+mod day;
+mod lists;
+mod queue;
+mod random;
+mod request;
+mod section;
+mod values;
+
+pub use day::day;
+pub use lists::CLASSES;
+pub use queue::{image, image_values, ImageValues, PAIRS};
+pub use random::Random;
+pub use request::{request, OwnedRequest};
+pub use section::{case, long_case, Case, Draft};
+pub use values::{section_values, OwnedValues};

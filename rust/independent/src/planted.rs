@@ -1,0 +1,103 @@
+//! Wrong versions, one or two for each kind, that a comparison has to find. Each is the plain
+//! function with its answer or its output changed a little.
+
+use std::io::{self, Read, Write};
+
+use crate::bytes::padded;
+use crate::listing::{self, Answer, Line};
+use crate::queue::Image;
+use crate::request::{self, Request};
+use crate::section::{Part, PROPERTIES_FIXED};
+use crate::{number, Refusal, Section, SectionValues};
+
+/// Reads with the extension padded to 4 before the body, the customer's old fault.
+pub fn read(input: &[u8], security_first: bool) -> Result<Section<'_>, Refusal> {
+    let mut section = crate::read(input, security_first)?;
+    let parts = &mut section.summary.parts;
+    let start = parts.extension.start + padded(parts.extension.length as u64) as usize;
+    parts.body = Part { start, length: parts.body.length };
+    let short = Refusal { number: number::INPUT_SHORT, place: parts.label.start - PROPERTIES_FIXED };
+    section.body = input.get(start..start + parts.body.length).ok_or(short)?;
+    section.summary.length = padded((start + parts.body.length) as u64) as usize;
+    Ok(section)
+}
+
+/// Copies the X bits of the properties Flags too, which are private.
+pub fn support_copy(input: &[u8], security_first: bool, out: &mut [u8]) -> Result<usize, Refusal> {
+    let length = crate::support_copy(input, security_first, out)?;
+    let at = properties_at(&input[..length], security_first);
+    out[at] = input[at];
+    Ok(length)
+}
+
+/// Writes the label's bytes where its 16-bit units have to stand.
+pub fn write_section(values: &SectionValues<'_>, out: &mut [u8]) -> Result<usize, Refusal> {
+    let length = crate::write_section(values, out)?;
+    let at = properties_at(&out[..length], values.security_first);
+    out[at + 1] = values.label.len() as u8;
+    Ok(length)
+}
+
+/// Refuses an image whose reserved bytes are not zero.
+pub fn read_image(input: &[u8]) -> Result<Image<'_>, Refusal> {
+    let image = crate::queue::read_image(input)?;
+    if input[2..4] == [0, 0] {
+        Ok(image)
+    } else {
+        Err(Refusal::at_start(number::QUEUE_PAIR))
+    }
+}
+
+/// Leaves the reserved bytes as they stood in the output.
+pub fn write_image(
+    kind: u8,
+    suffix_and_flags: u8,
+    fixed: &[u8],
+    text: &[u8],
+    out: &mut [u8],
+) -> Result<usize, Refusal> {
+    let stood = out.get(2..4).map(|reserved| [reserved[0], reserved[1]]);
+    let length = crate::queue::write_image(kind, suffix_and_flags, fixed, text, out)?;
+    if let Some(reserved) = stood {
+        out[2..4].copy_from_slice(&reserved);
+    }
+    Ok(length)
+}
+
+/// Leaves the delivery of a transaction as it was given.
+pub fn defaulted<'a>(request: &Request<'a>) -> Result<request::Properties<'a>, Refusal> {
+    let mut properties = request::defaulted(request)?;
+    properties.delivery = request.delivery.unwrap_or(0);
+    Ok(properties)
+}
+
+/// Copies the request's privacy 2 into the packet.
+pub fn send(request: &Request<'_>, out: &mut [u8]) -> Result<usize, Refusal> {
+    let properties = request::defaulted(request)?;
+    let length = request::send(request, out)?;
+    let at = properties_at(&out[..length], properties.security_first());
+    out[at + 40..at + 44].copy_from_slice(&properties.privacy_level.to_le_bytes());
+    Ok(length)
+}
+
+/// Gives the label's bytes where its 16-bit units have to stand.
+pub fn line(number: u64, answer: &Answer) -> String {
+    listing::line(number, &label_in_bytes(answer))
+}
+
+/// Lists with [`line()`].
+pub fn list(input: impl Read, output: impl Write) -> io::Result<()> {
+    let push = |lines: &mut Vec<u8>, number: u64, answer: &Answer| {
+        listing::push_line(lines, number, &label_in_bytes(answer));
+    };
+    listing::list_by(push, input, output)
+}
+
+fn label_in_bytes(answer: &Answer) -> Answer {
+    answer.map(|line| Line { label: 2 * line.label, ..line })
+}
+
+/// Where the properties header of an accepted section begins.
+fn properties_at(section: &[u8], security_first: bool) -> usize {
+    crate::read(section, security_first).map_or(0, |s| s.summary.parts.label.start - PROPERTIES_FIXED)
+}

@@ -1,0 +1,129 @@
+//! How often each refusal comes up in the generated cases. `--nocapture` prints the tables.
+
+use std::collections::BTreeMap;
+
+use independent::generate::{case, day, image, image_values, request, section_values, Random};
+use independent::listing::{next_record, Next};
+use independent::queue::{read_image, write_image};
+use independent::request::send;
+use independent::{number, read, write_section, Refusal};
+
+/// How often each number comes up; 0 for an acceptance.
+type Counts = BTreeMap<u32, usize>;
+
+fn counts<T>(
+    name: &str,
+    cases: usize,
+    seed: u64,
+    answer: impl Fn(&mut Random) -> Result<T, Refusal>,
+) -> Counts {
+    let mut r = Random::new(seed);
+    let mut counts = Counts::new();
+    for _ in 0..cases {
+        *counts.entry(answer(&mut r).err().map_or(0, |refusal| refusal.number)).or_default() += 1;
+    }
+    println!("{name}: {counts:?}");
+    counts
+}
+
+/// That each of `numbers` comes up `least` times, and nothing else than they and `rare` at all.
+fn each_at_least(counts: &Counts, numbers: impl IntoIterator<Item = u32>, least: usize, rare: &[u32]) {
+    let mut others = counts.clone();
+    others.remove(&0);
+    for number in numbers {
+        assert!(others.remove(&number).unwrap_or(0) >= least, "refusal {number}");
+    }
+    for number in rare {
+        assert!(others.remove(number).is_some(), "refusal {number}");
+    }
+    assert_eq!(others, Counts::new());
+}
+
+#[test]
+fn sections() {
+    let counts = counts("sections", 50_000, 1, |r| {
+        let case = case(r);
+        read(&case.bytes, case.security_first).map(|_| ())
+    });
+    assert!(counts[&0] > 15_000);
+    each_at_least(&counts, 1..=12, 100, &[]);
+}
+
+#[test]
+fn values_to_be_written() {
+    let counts = counts("section values", 50_000, 2, |r| {
+        let owned = section_values(r);
+        write_section(&owned.as_values(), &mut vec![0; owned.room])
+    });
+    assert!(counts[&0] > 15_000);
+    let often = (2..=13).filter(|number| ![number::CERTIFICATE, number::LIMIT].contains(number));
+    each_at_least(&counts, often, 100, &[number::LIMIT, number::PART_SIZE]);
+}
+
+#[test]
+fn queue_images() {
+    let counts = counts("queue images", 50_000, 3, |r| read_image(&image(r)).map(|_| ()));
+    assert!(counts[&0] > 15_000);
+    each_at_least(&counts, [1, 30, 31, 32, 33], 1_000, &[]);
+}
+
+#[test]
+fn values_to_be_written_as_images() {
+    let counts = counts("image values", 50_000, 4, |r| {
+        let v = image_values(r);
+        write_image(v.kind, v.suffix_and_flags, &v.fixed, &v.text, &mut vec![0; v.room])
+    });
+    assert!(counts[&0] > 15_000);
+    each_at_least(&counts, [13, 30, 31, 32, 33], 1_000, &[]);
+}
+
+#[test]
+fn send_requests() {
+    let counts = counts("requests", 50_000, 5, |r| {
+        let owned = request(r);
+        send(&owned.as_request(), &mut vec![0; owned.room])
+    });
+    assert!(counts[&0] > 10_000);
+    each_at_least(&counts, [10, 11, 13].into_iter().chain(20..=28), 100, &[number::LIMIT]);
+}
+
+#[test]
+fn day_files() {
+    let mut r = Random::new(6);
+    let (mut ends, mut stops, mut accepted, mut refused) = (0, 0, 0, 0);
+    for _ in 0..10_000 {
+        let file = day(&mut r);
+        let mut rest = &file[..];
+        loop {
+            match next_record(rest) {
+                Next::End => break ends += 1,
+                Next::Stop => break stops += 1,
+                Next::Record { size, answer } => {
+                    rest = &rest[size..];
+                    match answer {
+                        Ok(_) => accepted += 1,
+                        Err(_) => refused += 1,
+                    }
+                }
+            }
+        }
+    }
+    println!("day files: {ends} end, {stops} stop; records: {accepted} accepted, {refused} refused");
+    assert!(ends > 3_000 && stops > 2_000 && accepted > 5_000 && refused > 5_000);
+}
+
+#[test]
+fn the_same_seed_gives_the_same_cases() {
+    let draw = || {
+        let mut r = Random::new(7);
+        let section = case(&mut r);
+        let texts = [
+            format!("{section:?}"),
+            format!("{:?}", section_values(&mut r)),
+            format!("{:?}", image_values(&mut r)),
+            format!("{:?}", request(&mut r)),
+        ];
+        (texts, image(&mut r), day(&mut r))
+    };
+    assert_eq!(draw(), draw());
+}

@@ -1,0 +1,104 @@
+//! Each wrong version differs from the plain one somewhere in the generated cases.
+
+use independent::generate::{case, day, image, image_values, request, section_values, Random};
+use independent::{listing, planted, queue, read, request as requests, support_copy, write_section};
+
+/// In how many of 2,000 cases `differs` says so.
+fn differences(seed: u64, differs: impl Fn(&mut Random) -> bool) -> usize {
+    let mut r = Random::new(seed);
+    (0..2_000).filter(|_| differs(&mut r)).count()
+}
+
+/// Whether two writers give different answers or outputs in `room` lent bytes.
+fn writers_differ<A: PartialEq>(
+    room: usize,
+    plain: impl Fn(&mut [u8]) -> A,
+    wrong: impl Fn(&mut [u8]) -> A,
+) -> bool {
+    let (mut a, mut b) = (vec![0x55; room], vec![0x55; room]);
+    plain(&mut a) != wrong(&mut b) || a != b
+}
+
+#[test]
+fn sections() {
+    let found = differences(1, |r| {
+        let case = case(r);
+        read(&case.bytes, case.security_first) != planted::read(&case.bytes, case.security_first)
+    });
+    assert!(found > 100, "{found}");
+}
+
+#[test]
+fn support_copies() {
+    let found = differences(2, |r| {
+        let case = case(r);
+        let (input, first) = (&case.bytes[..], case.security_first);
+        writers_differ(
+            input.len(),
+            |out| support_copy(input, first, out),
+            |out| planted::support_copy(input, first, out),
+        )
+    });
+    assert!(found > 100, "{found}");
+}
+
+#[test]
+fn section_writers() {
+    let found = differences(3, |r| {
+        let owned = section_values(r);
+        let values = owned.as_values();
+        writers_differ(
+            owned.room,
+            |out| write_section(&values, out),
+            |out| planted::write_section(&values, out),
+        )
+    });
+    assert!(found > 100, "{found}");
+}
+
+#[test]
+fn queue_images() {
+    let found = differences(4, |r| {
+        let input = image(r);
+        queue::read_image(&input) != planted::read_image(&input)
+    });
+    assert!(found > 100, "{found}");
+    let found = differences(5, |r| {
+        let v = image_values(r);
+        writers_differ(
+            v.room,
+            |out| queue::write_image(v.kind, v.suffix_and_flags, &v.fixed, &v.text, out),
+            |out| planted::write_image(v.kind, v.suffix_and_flags, &v.fixed, &v.text, out),
+        )
+    });
+    assert!(found > 100, "{found}");
+}
+
+#[test]
+fn send_requests() {
+    let found = differences(6, |r| {
+        let owned = request(r);
+        requests::defaulted(&owned.as_request()) != planted::defaulted(&owned.as_request())
+    });
+    assert!(found > 100, "{found}");
+    let found = differences(7, |r| {
+        let owned = request(r);
+        let request = owned.as_request();
+        writers_differ(owned.room, |out| requests::send(&request, out), |out| planted::send(&request, out))
+    });
+    assert!(found > 100, "{found}");
+}
+
+#[test]
+fn listings() {
+    let found = differences(8, |r| {
+        let file = day(r);
+        let (mut a, mut b) = (Vec::new(), Vec::new());
+        listing::list(&file[..], &mut a).unwrap();
+        planted::list(&file[..], &mut b).unwrap();
+        a != b
+    });
+    assert!(found > 100, "{found}");
+    let answer = Ok(listing::Line { class: 0, label: 3, extension: 0, body: 0, total: 64 });
+    assert_ne!(listing::line(0, &answer), planted::line(0, &answer));
+}

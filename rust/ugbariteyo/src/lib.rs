@@ -1,0 +1,76 @@
+//! Message-queue sections (an optional SecurityHeader and a MessagePropertiesHeader), their support copies,
+//! and queue formats: a safe interface to the proved library.
+//!
+//! Every call answers for every input: the answer, or a [`Refusal`] with its number and place. Nothing has to
+//! be checked beforehand, a refusal leaves a lent output as it stood, and what is read is borrowed from the
+//! input.
+//!
+//! The functions behind this crate are proved to answer as the exact rules say. What is not proved is this
+//! crate itself: it lends the slices, and takes the parts out of the input by their places.
+//!
+//! # Reading a section
+//!
+//! ```
+//! use ugbariteyo::{read, Kind};
+//!
+//! let mut input = [0; 60];
+//! input[32] = 3; // MessageSize
+//! input[36] = 3; // AllocationBodySize
+//! input[56..59].copy_from_slice(b"two");
+//!
+//! let section = read(&input, false)?;
+//! assert_eq!(section.body(), b"two");
+//! assert_eq!(section.section_length(), 60);
+//!
+//! let refusal = read(&input[..59], false).unwrap_err();
+//! assert_eq!(refusal.kind(), Some(Kind::InputShort));
+//! assert_eq!(refusal.to_string(), "refused with 1 at 0: input short");
+//! # Ok::<(), ugbariteyo::Refusal>(())
+//! ```
+//!
+//! # A support copy
+//!
+//! The copy holds what is judged and nothing private; it reads to the same summary.
+//!
+//! ```
+//! use ugbariteyo::{same_summary, support_copy_vec};
+//!
+//! let mut input = [0; 60];
+//! input[32] = 3;
+//! input[36] = 3;
+//! input[56..59].copy_from_slice(b"two");
+//!
+//! let copy = support_copy_vec(&input, false)?;
+//! assert_eq!(copy[56..59], [0; 3]);
+//! assert!(same_summary(&input, &copy, false));
+//! # Ok::<(), ugbariteyo::Refusal>(())
+//! ```
+//!
+//! # Building
+//!
+//! The proved library is `libcface.a`, for x86-64 Linux. `build.rs` links it from the directory in the variable
+//! `UGBARITEYO_LIB_DIR`, else from the repository's `target/staticlib`; where it is not there yet, it is made
+//! with `rt staticlib cface`. An archive that is there is taken as it is: after a change of the proved crates,
+//! run that command again.
+
+#![deny(missing_docs)]
+#![deny(unsafe_code)]
+
+mod copy;
+mod ffi;
+mod flags;
+mod queue;
+mod refusal;
+mod request;
+mod section;
+mod text;
+mod write;
+
+pub use copy::{support_copy, support_copy_vec};
+pub use flags::{PropertiesFlags, SecurityFlags};
+pub use queue::{read_image, write_image, Image, QueueFormat, Value};
+pub use refusal::{Kind, Refusal};
+pub use request::{defaulted, send, send_vec, Body, Handling, Properties, Request, Sender};
+pub use section::{label_shown, read, same_summary, summarize, Part, Reading, Security, Summary, LIMIT};
+pub use text::{text_bytes, Text, Units};
+pub use write::{write_section, write_section_vec, SectionValues};

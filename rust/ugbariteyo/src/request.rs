@@ -1,0 +1,343 @@
+//! Send requests: checked, given their defaults, and written as sections.
+
+use std::fmt;
+
+use crate::refusal::Refusal;
+use crate::section::{Part, LIMIT};
+use crate::{ffi, ffi::accepted};
+
+/// A send request. A number that is `None` and a part that is empty are absent.
+///
+/// Its `Debug` shows no private part.
+#[derive(Clone, Copy, PartialEq, Eq, Default)]
+pub struct Request<'a> {
+    /// Priority, 0 to 7.
+    pub priority: Option<u32>,
+    /// Trace, 0 or 1.
+    pub trace: Option<u32>,
+    /// Delivery, 0 or 1. A transaction makes it 1.
+    pub delivery: Option<u32>,
+    /// Auditing, 0 to 3.
+    pub auditing: Option<u32>,
+    /// The class.
+    pub message_class: Option<u32>,
+    /// Acknowledge, 0 to 15: the section's Flags.
+    pub acknowledge: Option<u32>,
+    /// The tag.
+    pub application_tag: Option<u32>,
+    /// Privacy, 0 to 2. The section's PrivacyLevel is 3 for 2.
+    pub privacy_level: Option<u32>,
+    /// The hash algorithm; a signature needs one.
+    pub hash_algorithm: Option<u32>,
+    /// The encryption algorithm; privacy needs one.
+    pub encryption_algorithm: Option<u32>,
+    /// The type of the body.
+    pub body_type: Option<u32>,
+    /// The sender kind, 0 to 2.
+    pub sender_kind: Option<u32>,
+    /// The provider's type.
+    pub provider_type: Option<u32>,
+    /// The split number: with it, the signature is the last (split number minus `provider_name_length`) bytes
+    /// of those given.
+    pub split_number: Option<u32>,
+    /// ulProvNameLen, which only the split number is held against.
+    pub provider_name_length: u32,
+    /// CorrelationID.
+    pub correlation_id: Option<[u8; 20]>,
+    /// Whether the message belongs to a transaction.
+    pub transaction: bool,
+    /// Whether the queue was opened by a direct format name.
+    pub direct_queue: bool,
+    /// Whether the signature is by the default provider.
+    pub default_provider: bool,
+    /// Whether encryption is asked. Without a key it counts as not asked.
+    pub encryption: bool,
+    /// The title, in 16-bit units without a null. It ends at its first zero unit, and at 249 units.
+    pub title: &'a [u16],
+    /// The identity.
+    pub sender_id: &'a [u8],
+    /// The key.
+    pub encryption_key: &'a [u8],
+    /// The signature bytes.
+    pub signature: &'a [u8],
+    /// The certificate.
+    pub sender_cert: &'a [u8],
+    /// The provider's name, in 16-bit units without a null.
+    pub provider_name: &'a [u16],
+    /// The extension.
+    pub extension: &'a [u8],
+    /// The body.
+    pub body: Option<Body<'a>>,
+}
+
+impl Request<'_> {
+    /// So many bytes are room enough for the section.
+    fn room(&self) -> usize {
+        let body = self.body.unwrap_or_default().bytes;
+        let parts =
+            [self.sender_id, self.encryption_key, self.signature, self.sender_cert, self.extension, body];
+        let texts = [self.title, self.provider_name].map(|text| 2 * (text.len() + 1) + 3);
+        let sizes = parts.iter().map(|part| part.len() + 3).chain(texts);
+        sizes.fold(16 + 4 + 56, usize::saturating_add).min(LIMIT)
+    }
+}
+
+/// The body of a request.
+#[derive(Clone, Copy, PartialEq, Eq, Default)]
+pub struct Body<'a> {
+    /// Its bytes.
+    pub bytes: &'a [u8],
+    /// How many bytes to allocate for it: at least as many as it has.
+    pub allocation: usize,
+}
+
+impl<'a> From<&'a [u8]> for Body<'a> {
+    /// A body with no more allocated than it has.
+    fn from(bytes: &'a [u8]) -> Self {
+        Self { bytes, allocation: bytes.len() }
+    }
+}
+
+impl fmt::Debug for Body<'_> {
+    fn fmt(&self, f: &mut fmt::Formatter<'_>) -> fmt::Result {
+        f.debug_struct("Body").field("allocation", &self.allocation).finish_non_exhaustive()
+    }
+}
+
+impl fmt::Debug for Request<'_> {
+    fn fmt(&self, f: &mut fmt::Formatter<'_>) -> fmt::Result {
+        f.debug_struct("Request")
+            .field("priority", &self.priority)
+            .field("trace", &self.trace)
+            .field("delivery", &self.delivery)
+            .field("auditing", &self.auditing)
+            .field("message_class", &self.message_class)
+            .field("acknowledge", &self.acknowledge)
+            .field("privacy_level", &self.privacy_level)
+            .field("hash_algorithm", &self.hash_algorithm)
+            .field("encryption_algorithm", &self.encryption_algorithm)
+            .field("body_type", &self.body_type)
+            .field("sender_kind", &self.sender_kind)
+            .field("provider_type", &self.provider_type)
+            .field("split_number", &self.split_number)
+            .field("provider_name_length", &self.provider_name_length)
+            .field("transaction", &self.transaction)
+            .field("direct_queue", &self.direct_queue)
+            .field("default_provider", &self.default_provider)
+            .field("encryption", &self.encryption)
+            .finish_non_exhaustive()
+    }
+}
+
+/// What no section carries.
+#[derive(Debug, Clone, Copy, PartialEq, Eq)]
+#[non_exhaustive]
+pub struct Handling {
+    /// Priority.
+    pub priority: u32,
+    /// Trace.
+    pub trace: u32,
+    /// Delivery, 1 in a transaction.
+    pub delivery: u32,
+    /// Auditing.
+    pub auditing: u32,
+    /// Whether the message belongs to a transaction.
+    pub transaction: bool,
+    /// Whether the queue was opened by a direct format name.
+    pub direct_queue: bool,
+    /// The split number.
+    pub split_number: Option<u32>,
+    /// ulProvNameLen.
+    pub provider_name_length: u32,
+}
+
+/// What only a SecurityHeader carries.
+#[derive(Debug, Clone, Copy, PartialEq, Eq)]
+#[non_exhaustive]
+pub struct Sender {
+    /// The sender kind.
+    pub kind: u32,
+    /// Whether the signature is by the default provider.
+    pub default_provider: bool,
+    /// Whether encryption is asked, and there is a key.
+    pub encryption: bool,
+}
+
+/// The defaulted properties of a request. Its `Debug` shows no private part.
+#[derive(Clone, Copy, PartialEq, Eq)]
+#[non_exhaustive]
+pub struct Properties<'a> {
+    /// What no section carries.
+    pub handling: Option<Handling>,
+    /// What only a SecurityHeader carries.
+    pub sender: Option<Sender>,
+    /// The provider's type, which only provider info carries.
+    pub provider_type: Option<u32>,
+    /// The class.
+    pub message_class: u32,
+    /// Acknowledge.
+    pub acknowledge: u32,
+    /// The tag.
+    pub application_tag: u32,
+    /// The request's privacy, 0 to 2.
+    pub privacy_level: u32,
+    /// The hash algorithm.
+    pub hash_algorithm: u32,
+    /// The encryption algorithm.
+    pub encryption_algorithm: u32,
+    /// The type of the body.
+    pub body_type: u32,
+    /// The body's length.
+    pub message_size: usize,
+    /// How many bytes to allocate for the body.
+    pub allocation_body_size: usize,
+    /// CorrelationID.
+    pub correlation_id: [u8; 20],
+    /// The title as cut, without its null.
+    pub title: &'a [u16],
+    /// The signature as cut.
+    pub signature: &'a [u8],
+}
+
+impl<'a> Properties<'a> {
+    fn new(answer: &ffi::Defaulted, request: &Request<'a>) -> Self {
+        let properties = &answer.properties;
+        let (handling, sender) = (&properties.handling, &properties.sender);
+        Self {
+            handling: handling.known.then(|| Handling {
+                priority: handling.priority,
+                trace: handling.trace,
+                delivery: handling.delivery,
+                auditing: handling.auditing,
+                transaction: handling.transaction,
+                direct_queue: handling.direct_queue,
+                split_number: handling.split_number.into(),
+                provider_name_length: handling.provider_name_length,
+            }),
+            sender: sender.known.then_some(Sender {
+                kind: sender.kind,
+                default_provider: sender.default_provider,
+                encryption: sender.encryption,
+            }),
+            provider_type: properties.provider_type.into(),
+            message_class: properties.message_class,
+            acknowledge: properties.acknowledge,
+            application_tag: properties.application_tag,
+            privacy_level: properties.privacy_level,
+            hash_algorithm: properties.hash_algorithm,
+            encryption_algorithm: properties.encryption_algorithm,
+            body_type: properties.body_type,
+            message_size: properties.message_size,
+            allocation_body_size: properties.allocation_body_size,
+            correlation_id: answer.correlation_id,
+            title: &request.title[..properties.title as usize],
+            signature: Part::from(properties.signature).of(request.signature),
+        }
+    }
+}
+
+/// The request's numbers, each with a mark of whether it is there.
+fn numbers(request: &Request<'_>) -> ffi::Request {
+    ffi::Request {
+        priority: request.priority.into(),
+        trace: request.trace.into(),
+        delivery: request.delivery.into(),
+        auditing: request.auditing.into(),
+        message_class: request.message_class.into(),
+        acknowledge: request.acknowledge.into(),
+        application_tag: request.application_tag.into(),
+        privacy_level: request.privacy_level.into(),
+        hash_algorithm: request.hash_algorithm.into(),
+        encryption_algorithm: request.encryption_algorithm.into(),
+        body_type: request.body_type.into(),
+        sender_kind: request.sender_kind.into(),
+        provider_type: request.provider_type.into(),
+        split_number: request.split_number.into(),
+        provider_name_length: request.provider_name_length,
+        correlation_given: request.correlation_id.is_some(),
+        body_given: request.body.is_some(),
+        allocation_body_size: request.body.map_or(0, |body| body.allocation),
+        transaction: request.transaction,
+        direct_queue: request.direct_queue,
+        default_provider: request.default_provider,
+        encryption: request.encryption,
+    }
+}
+
+/// What the request lends beside its numbers.
+fn parts<'a>(request: &Request<'a>) -> ffi::RequestParts<'a> {
+    ffi::RequestParts {
+        correlation_id: request.correlation_id.unwrap_or_default(),
+        title: request.title,
+        sender_id: request.sender_id,
+        encryption_key: request.encryption_key,
+        signature: request.signature,
+        sender_cert: request.sender_cert,
+        provider_name: request.provider_name,
+        extension: request.extension,
+        body: request.body.unwrap_or_default().bytes,
+    }
+}
+
+impl fmt::Debug for Properties<'_> {
+    fn fmt(&self, f: &mut fmt::Formatter<'_>) -> fmt::Result {
+        f.debug_struct("Properties")
+            .field("handling", &self.handling)
+            .field("sender", &self.sender)
+            .field("provider_type", &self.provider_type)
+            .field("message_class", &self.message_class)
+            .field("acknowledge", &self.acknowledge)
+            .field("privacy_level", &self.privacy_level)
+            .field("hash_algorithm", &self.hash_algorithm)
+            .field("encryption_algorithm", &self.encryption_algorithm)
+            .field("body_type", &self.body_type)
+            .field("message_size", &self.message_size)
+            .field("allocation_body_size", &self.allocation_body_size)
+            .field("title", &String::from_utf16_lossy(self.title))
+            .finish_non_exhaustive()
+    }
+}
+
+/// The defaulted properties of a request: each absent value has its default, title and signature are cut.
+///
+/// Refused by the steps of a request in their order: with 20 and 10, 21 to 28, then 11 and 8. The place is 0.
+///
+/// ```
+/// use ugbariteyo::{defaulted, Request};
+///
+/// let properties = defaulted(&Request { acknowledge: Some(5), ..Request::default() })?;
+/// assert_eq!(properties.handling.map(|handling| handling.priority), Some(3));
+/// assert_eq!(properties.acknowledge, 5);
+/// # Ok::<(), ugbariteyo::Refusal>(())
+/// ```
+pub fn defaulted<'a>(request: &Request<'a>) -> Result<Properties<'a>, Refusal> {
+    let answer = ffi::defaulted(numbers(request), parts(request));
+    accepted(answer.refusal)?;
+    Ok(Properties::new(&answer, request))
+}
+
+/// Writes the section of a request to the front of `out`, and gives its length.
+///
+/// Refused as [`defaulted`] is, then with 13 where `out` is shorter than the section. A refusal writes
+/// nothing, and bytes of `out` behind the section stay as they were.
+pub fn send(request: &Request<'_>, out: &mut [u8]) -> Result<usize, Refusal> {
+    ffi::written(ffi::send(numbers(request), parts(request), out))
+}
+
+/// The section of a request in a vector of its own. Refused as [`defaulted`] is.
+///
+/// ```
+/// use ugbariteyo::{read, send_vec, Body, Request};
+///
+/// let title: Vec<u16> = "Rope 7".encode_utf16().collect();
+/// let body = Body::from(&b"second"[..]);
+/// let section = send_vec(&Request { title: &title, body: Some(body), ..Request::default() })?;
+/// assert_eq!(read(&section, false)?.label_text().to_string(), "Rope 7");
+/// # Ok::<(), ugbariteyo::Refusal>(())
+/// ```
+pub fn send_vec(request: &Request<'_>) -> Result<Vec<u8>, Refusal> {
+    let mut section = vec![0; request.room()];
+    let length = send(request, &mut section)?;
+    section.truncate(length);
+    Ok(section)
+}

@@ -1,0 +1,386 @@
+//! Reading a section: an optional SecurityHeader, then a MessagePropertiesHeader.
+
+use std::fmt;
+
+use crate::flags::{PropertiesFlags, SecurityFlags};
+use crate::refusal::Refusal;
+use crate::text::{Text, Units};
+use crate::{ffi, ffi::accepted};
+
+/// The most bytes that a section may have.
+pub const LIMIT: usize = 4_194_304;
+
+/// Where a part lies in the input, in bytes.
+#[derive(Debug, Clone, Copy, PartialEq, Eq, Hash, Default)]
+pub struct Part {
+    /// The offset of its first byte.
+    pub start: usize,
+    /// How many bytes it has.
+    pub length: usize,
+}
+
+impl Part {
+    /// The bytes of this part of `input`.
+    ///
+    /// # Panics
+    ///
+    /// Panics where the part does not lie in `input`: it was read from another one.
+    pub fn of(self, input: &[u8]) -> &[u8] {
+        &input[self.start..self.start + self.length]
+    }
+}
+
+impl From<ffi::Part> for Part {
+    fn from(part: ffi::Part) -> Self {
+        Self { start: part.start, length: part.length }
+    }
+}
+
+/// The SecurityHeader in a summary. The size fields are the lengths of the parts.
+#[derive(Debug, Clone, Copy, PartialEq, Eq)]
+#[non_exhaustive]
+pub struct Security<'a> {
+    /// Flags, bits 0 to 11.
+    pub flags: SecurityFlags,
+    /// The identity.
+    pub sender_id: Part,
+    /// The key.
+    pub encryption_key: Part,
+    /// The signature.
+    pub signature: Part,
+    /// The certificate.
+    pub sender_cert: Part,
+    /// Provider info: a type of 4 bytes and the name.
+    pub provider_info: Part,
+    /// The header's length, padding included.
+    pub length: usize,
+    /// The first byte of the identity for sender kind 1, else 0.
+    pub sid_revision: u8,
+    /// The second byte of the identity for sender kind 1, else 0.
+    pub sid_sub_authority_count: u8,
+    /// The provider's type, where there is provider info.
+    pub provider_type: Option<u32>,
+    /// The provider's name.
+    pub provider_name: Text<'a>,
+}
+
+/// What a section says in public: every judged field, the place of each part, both verdicts, the label and
+/// the provider's name. It holds nothing private.
+///
+/// Two summaries are equal exactly when all of this is equal, label and name by content. For two accepted
+/// inputs that is the case exactly when they agree in every judged bit.
+#[derive(Debug, Clone, Copy, PartialEq, Eq)]
+#[non_exhaustive]
+pub struct Summary<'a> {
+    /// The SecurityHeader, where one stands first.
+    pub security: Option<Security<'a>>,
+    /// Flags, bits 0 to 3.
+    pub flags: PropertiesFlags,
+    /// LabelLength, null included.
+    pub label_length: Units,
+    /// MessageClass.
+    pub message_class: u16,
+    /// BodyType.
+    pub body_type: u32,
+    /// MessageSize, in bytes: the length of the body.
+    pub message_size: usize,
+    /// AllocationBodySize, in bytes: at least MessageSize.
+    pub allocation_body_size: usize,
+    /// PrivacyLevel.
+    pub privacy_level: u32,
+    /// HashAlgorithm.
+    pub hash_algorithm: u32,
+    /// EncryptionAlgorithm.
+    pub encryption_algorithm: u32,
+    /// ExtensionSize, in bytes: the length of the extension.
+    pub extension_size: usize,
+    /// Where the label lies.
+    pub label_part: Part,
+    /// Where the extension lies.
+    pub extension: Part,
+    /// Where the body lies.
+    pub body: Part,
+    /// The section's length, padding included.
+    pub section_length: usize,
+    /// The verdict "authentication fails".
+    pub authentication_fails: bool,
+    /// The verdict "decryption fails".
+    pub decryption_fails: bool,
+    /// The label.
+    pub label: Text<'a>,
+}
+
+impl<'a> Summary<'a> {
+    fn new(summary: &ffi::Summary, input: &'a [u8]) -> Self {
+        let properties = &summary.properties;
+        let parts = &summary.parts;
+        let label_part = Part::from(parts.label);
+        Self {
+            security: summary.security_first.then(|| Security::new(&summary.security, input)),
+            flags: PropertiesFlags(properties.flags),
+            label_length: Units(properties.label_length),
+            message_class: properties.message_class,
+            body_type: properties.body_type,
+            message_size: properties.message_size,
+            allocation_body_size: properties.allocation_body_size,
+            privacy_level: properties.privacy_level,
+            hash_algorithm: properties.hash_algorithm,
+            encryption_algorithm: properties.encryption_algorithm,
+            extension_size: properties.extension_size,
+            label_part,
+            extension: parts.extension.into(),
+            body: parts.body.into(),
+            section_length: parts.section_length,
+            authentication_fails: summary.authentication_fails,
+            decryption_fails: summary.decryption_fails,
+            label: Text::new(label_part.of(input)),
+        }
+    }
+}
+
+impl<'a> Security<'a> {
+    fn new(security: &ffi::SecurityHeader, input: &'a [u8]) -> Self {
+        let parts = &security.parts;
+        let provider_info = Part::from(parts.provider_info);
+        let name = provider_info.of(input).get(4..);
+        Self {
+            // only bits 0 to 11 are there
+            flags: SecurityFlags(security.fields.flags as u16),
+            sender_id: parts.sender_id.into(),
+            encryption_key: parts.encryption_key.into(),
+            signature: parts.signature.into(),
+            sender_cert: parts.sender_cert.into(),
+            provider_info,
+            length: parts.length,
+            sid_revision: security.sid_revision,
+            sid_sub_authority_count: security.sid_sub_authority_count,
+            provider_type: name.map(|_| security.provider_type),
+            provider_name: Text::new(name.unwrap_or_default()),
+        }
+    }
+}
+
+/// The full reading of a section: its summary, and a view of each private value and part.
+///
+/// Everything is borrowed from the input. Its `Debug` shows the summary only, so that no key, finding or
+/// signature gets into a log.
+#[derive(Clone, Copy, PartialEq, Eq)]
+pub struct Reading<'a> {
+    summary: Summary<'a>,
+    application_tag: u32,
+    correlation_id: &'a [u8; 20],
+    sender_id: &'a [u8],
+    encryption_key: &'a [u8],
+    signature: &'a [u8],
+    sender_cert: &'a [u8],
+    provider_info: &'a [u8],
+    extension: &'a [u8],
+    body: &'a [u8],
+}
+
+impl<'a> Reading<'a> {
+    fn new(section: &ffi::Section, input: &'a [u8]) -> Self {
+        let security = &section.summary.security.parts;
+        let part = |part: ffi::Part| Part::from(part).of(input);
+        let correlation_id = &input[section.correlation_id.start..];
+        Self {
+            summary: Summary::new(&section.summary, input),
+            application_tag: section.application_tag,
+            correlation_id: correlation_id.first_chunk().expect("a section holds 20 bytes of CorrelationID"),
+            sender_id: part(security.sender_id),
+            encryption_key: part(security.encryption_key),
+            signature: part(security.signature),
+            sender_cert: part(security.sender_cert),
+            provider_info: part(security.provider_info),
+            extension: part(section.summary.parts.extension),
+            body: part(section.summary.parts.body),
+        }
+    }
+
+    /// The summary, which holds nothing private.
+    pub fn summary(&self) -> Summary<'a> {
+        self.summary
+    }
+
+    /// Whether a SecurityHeader stands first.
+    pub fn security_first(&self) -> bool {
+        self.summary.security.is_some()
+    }
+
+    /// The section's length, padding included. Bytes behind it were not read.
+    pub fn section_length(&self) -> usize {
+        self.summary.section_length
+    }
+
+    /// The verdict "authentication fails": PrivacyLevel, or HashAlgorithm beside a signature, is none of
+    /// those listed.
+    pub fn authentication_fails(&self) -> bool {
+        self.summary.authentication_fails
+    }
+
+    /// The verdict "decryption fails": EB is set, and EncryptionAlgorithm is none of those listed.
+    pub fn decryption_fails(&self) -> bool {
+        self.summary.decryption_fails
+    }
+
+    /// The SecurityHeader's Flags; zero where there is none.
+    pub fn security_flags(&self) -> SecurityFlags {
+        self.summary.security.map(|security| security.flags).unwrap_or_default()
+    }
+
+    /// The identity: a SID for sender kind 1, the GUID of a queue manager for 2.
+    pub fn sender_id(&self) -> &'a [u8] {
+        self.sender_id
+    }
+
+    /// The key.
+    pub fn encryption_key(&self) -> &'a [u8] {
+        self.encryption_key
+    }
+
+    /// The signature.
+    pub fn signature(&self) -> &'a [u8] {
+        self.signature
+    }
+
+    /// The certificate.
+    pub fn sender_cert(&self) -> &'a [u8] {
+        self.sender_cert
+    }
+
+    /// Provider info: a type of 4 bytes and the name, or nothing.
+    pub fn provider_info(&self) -> &'a [u8] {
+        self.provider_info
+    }
+
+    /// The provider's type, where there is provider info.
+    pub fn provider_type(&self) -> Option<u32> {
+        self.summary.security?.provider_type
+    }
+
+    /// The provider's name.
+    pub fn provider_name(&self) -> Text<'a> {
+        self.summary.security.map(|security| security.provider_name).unwrap_or_default()
+    }
+
+    /// The properties' Flags.
+    pub fn flags(&self) -> PropertiesFlags {
+        self.summary.flags
+    }
+
+    /// LabelLength, null included.
+    pub fn label_length(&self) -> Units {
+        self.summary.label_length
+    }
+
+    /// MessageClass.
+    pub fn message_class(&self) -> u16 {
+        self.summary.message_class
+    }
+
+    /// CorrelationID.
+    pub fn correlation_id(&self) -> &'a [u8; 20] {
+        self.correlation_id
+    }
+
+    /// BodyType.
+    pub fn body_type(&self) -> u32 {
+        self.summary.body_type
+    }
+
+    /// ApplicationTag.
+    pub fn application_tag(&self) -> u32 {
+        self.application_tag
+    }
+
+    /// MessageSize, in bytes: the length of the body.
+    pub fn message_size(&self) -> usize {
+        self.summary.message_size
+    }
+
+    /// AllocationBodySize, in bytes.
+    pub fn allocation_body_size(&self) -> usize {
+        self.summary.allocation_body_size
+    }
+
+    /// PrivacyLevel.
+    pub fn privacy_level(&self) -> u32 {
+        self.summary.privacy_level
+    }
+
+    /// HashAlgorithm.
+    pub fn hash_algorithm(&self) -> u32 {
+        self.summary.hash_algorithm
+    }
+
+    /// EncryptionAlgorithm.
+    pub fn encryption_algorithm(&self) -> u32 {
+        self.summary.encryption_algorithm
+    }
+
+    /// ExtensionSize, in bytes: the length of the extension.
+    pub fn extension_size(&self) -> usize {
+        self.summary.extension_size
+    }
+
+    /// The label's bytes, null included; nothing where LabelLength is 0.
+    pub fn label(&self) -> &'a [u8] {
+        self.summary.label.bytes()
+    }
+
+    /// The label as text.
+    pub fn label_text(&self) -> Text<'a> {
+        self.summary.label
+    }
+
+    /// The extension.
+    pub fn extension(&self) -> &'a [u8] {
+        self.extension
+    }
+
+    /// The body: MessageSize bytes.
+    pub fn body(&self) -> &'a [u8] {
+        self.body
+    }
+}
+
+impl fmt::Debug for Reading<'_> {
+    fn fmt(&self, f: &mut fmt::Formatter<'_>) -> fmt::Result {
+        f.debug_struct("Reading").field("summary", &self.summary).finish_non_exhaustive()
+    }
+}
+
+/// Reads the section at the start of `input`. The caller says whether a SecurityHeader stands first.
+///
+/// ```
+/// let section = ugbariteyo::read(&[0; 56], false)?;
+/// assert_eq!(section.section_length(), 56);
+/// assert_eq!(ugbariteyo::read(&[0; 55], false).unwrap_err().number, 1);
+/// # Ok::<(), ugbariteyo::Refusal>(())
+/// ```
+pub fn read(input: &[u8], security_first: bool) -> Result<Reading<'_>, Refusal> {
+    let answer = ffi::read(input, security_first);
+    accepted(answer.refusal)?;
+    Ok(Reading::new(&answer.section, input))
+}
+
+/// The summary of the section at the start of `input`. Refused as [`read`] is.
+pub fn summarize(input: &[u8], security_first: bool) -> Result<Summary<'_>, Refusal> {
+    let answer = ffi::summarize(input, security_first);
+    accepted(answer.refusal)?;
+    Ok(Summary::new(&answer.summary, input))
+}
+
+/// Whether both inputs are accepted and have the same summary: they agree in every judged bit.
+pub fn same_summary(a: &[u8], b: &[u8], security_first: bool) -> bool {
+    ffi::same_summary(a, b, security_first)
+}
+
+/// The label for display, null included, or the stand-in where LabelLength is 0 or reading is refused.
+pub fn label_shown<'a>(input: &'a [u8], security_first: bool, stand_in: &'a [u8]) -> &'a [u8] {
+    let label = ffi::label_shown(input, security_first);
+    if label.stand_in {
+        return stand_in;
+    }
+    Part::from(label.part).of(input)
+}

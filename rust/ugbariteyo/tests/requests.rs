@@ -1,0 +1,222 @@
+//! 01's example 11, the steps of a send request in their order, and what a section carries of its defaulted
+//! values.
+
+use ugbariteyo::{
+    defaulted, read, send, send_vec, Body, Kind, PropertiesFlags, Refusal, Request, SecurityFlags, Units,
+    LIMIT,
+};
+
+fn refused(kind: Kind) -> Refusal {
+    Refusal { number: kind as u32, place: 0 }
+}
+
+fn units(text: &str) -> Vec<u16> {
+    text.encode_utf16().collect()
+}
+
+const SID: [u8; 12] = [1, 1, 0, 0, 0, 0, 0, 5, 18, 0, 0, 0];
+
+/// A request with every value and part given.
+fn full<'a>(title: &'a [u16], name: &'a [u16]) -> Request<'a> {
+    Request {
+        priority: Some(7),
+        trace: Some(1),
+        delivery: Some(0),
+        auditing: Some(3),
+        message_class: Some(0x8009),
+        acknowledge: Some(15),
+        application_tag: Some(0xDEAD_BEEF),
+        privacy_level: Some(2),
+        hash_algorithm: Some(0x800C),
+        encryption_algorithm: Some(0x6610),
+        body_type: Some(8),
+        sender_kind: Some(1),
+        provider_type: Some(24),
+        split_number: Some(9),
+        provider_name_length: 4,
+        correlation_id: Some([7; 20]),
+        transaction: true,
+        direct_queue: false,
+        default_provider: false,
+        encryption: true,
+        title,
+        sender_id: &SID,
+        encryption_key: b"key",
+        signature: b"old signed",
+        sender_cert: b"cert.",
+        provider_name: name,
+        extension: b"ext",
+        body: Some(Body { bytes: b"body", allocation: 6 }),
+    }
+}
+
+#[test]
+fn example_11_titles() {
+    for (length, label) in [(0, 0), (1, 2), (248, 249), (249, 250), (250, 250), (300, 250)] {
+        let title = vec![0x61; length];
+        let section = send_vec(&Request { title: &title, ..Default::default() }).unwrap();
+        assert_eq!(read(&section, false).unwrap().label_length(), Units(label));
+    }
+    let cut = [0x61, 0, 0x62];
+    let request = Request { title: &cut, ..Default::default() };
+    assert_eq!(defaulted(&request).unwrap().title, [0x61]);
+    assert_eq!(read(&send_vec(&request).unwrap(), false).unwrap().label_text().to_string(), "a");
+    let empty = Request { title: &cut[1..], ..Default::default() };
+    assert_eq!(send_vec(&empty).unwrap(), [0; 56]);
+}
+
+#[test]
+fn an_absent_value_gets_its_default() {
+    let request = Request::default();
+    let properties = defaulted(&request).unwrap();
+    let handling = properties.handling.unwrap();
+    assert_eq!((handling.priority, handling.trace, handling.delivery, handling.auditing), (3, 0, 0, 0));
+    assert_eq!((handling.transaction, handling.direct_queue, handling.split_number), (false, false, None));
+    let sender = properties.sender.unwrap();
+    assert_eq!((sender.kind, sender.default_provider, sender.encryption), (0, false, false));
+    assert_eq!((properties.provider_type, properties.message_class, properties.acknowledge), (Some(0), 0, 0));
+    assert_eq!((properties.application_tag, properties.privacy_level, properties.body_type), (0, 0, 0));
+    assert_eq!((properties.hash_algorithm, properties.encryption_algorithm), (0, 0));
+    assert_eq!((properties.message_size, properties.allocation_body_size), (0, 0));
+    assert_eq!(
+        (properties.correlation_id, properties.title.len(), properties.signature.len()),
+        ([0; 20], 0, 0)
+    );
+    assert_eq!(send_vec(&request).unwrap(), [0; 56]);
+
+    let transaction = Request { transaction: true, delivery: Some(0), ..Default::default() };
+    assert_eq!(defaulted(&transaction).unwrap().handling.unwrap().delivery, 1);
+    let no_key = Request { encryption: true, ..Default::default() };
+    assert!(!defaulted(&no_key).unwrap().sender.unwrap().encryption);
+}
+
+#[test]
+fn a_section_carries_the_defaulted_values() {
+    let (title, name) = (units("Rope 7"), units("Provider"));
+    let request = full(&title, &name);
+    let properties = defaulted(&request).unwrap();
+    assert_eq!(properties.signature, b"igned");
+    assert_eq!(properties.handling.unwrap().delivery, 1);
+    assert_eq!(properties.privacy_level, 2);
+
+    let bytes = send_vec(&request).unwrap();
+    let section = read(&bytes, true).unwrap();
+    assert_eq!(section.section_length(), bytes.len());
+    assert_eq!(section.security_flags(), SecurityFlags(0x00A1));
+    assert_eq!((section.sender_id(), section.encryption_key()), (&SID[..], &b"key"[..]));
+    assert_eq!((section.signature(), section.sender_cert()), (&b"igned"[..], &b"cert."[..]));
+    assert_eq!(
+        (section.provider_type(), section.provider_name().to_string()),
+        (Some(24), "Provider".to_owned())
+    );
+    assert_eq!(section.flags(), PropertiesFlags(15));
+    assert_eq!((section.message_class(), section.correlation_id()), (0x8009, &[7; 20]));
+    assert_eq!(
+        (section.application_tag(), section.body_type(), section.privacy_level()),
+        (0xDEAD_BEEF, 8, 3)
+    );
+    assert_eq!((section.hash_algorithm(), section.encryption_algorithm()), (0x800C, 0x6610));
+    assert_eq!(section.label_text().to_string(), "Rope 7");
+    assert_eq!(
+        (section.extension(), section.body(), section.allocation_body_size()),
+        (&b"ext"[..], &b"body"[..], 6)
+    );
+
+    let default = Request { default_provider: true, provider_type: Some(1), ..request };
+    let bytes = send_vec(&default).unwrap();
+    let section = read(&bytes, true).unwrap();
+    assert_eq!((section.security_flags(), section.provider_info()), (SecurityFlags(0x00E1), &b""[..]));
+}
+
+#[test]
+fn steps_in_their_order() {
+    let (title, name) = (units("Rope 7"), units("Provider"));
+    let (long, huge) = (vec![1; 65_536], vec![1; LIMIT]);
+    let (long_name, zero_name) = (vec![0x61; 1_025], [0x61, 0, 0x61]);
+    let mut request = full(&title, &name);
+    // the last step that fails stays while those before it are added
+    type Fail = fn(&mut Request<'_>);
+    let steps: [(Kind, Fail); 9] = [
+        (Kind::Allocation, |r| r.body = Some(Body { bytes: b"body", allocation: 3 })),
+        (Kind::SplitNumber, |r| r.split_number = Some(4)),
+        (Kind::RequestProvider, |r| r.provider_name = &[]),
+        (Kind::RequestIdentity, |r| r.sender_kind = Some(2)),
+        (Kind::HashAbsent, |r| r.hash_algorithm = None),
+        (Kind::AlgorithmAbsent, |r| r.encryption_algorithm = None),
+        (Kind::DirectQueuePrivacy, |r| r.direct_queue = true),
+        (Kind::RequestPrivacy, |r| r.privacy_level = Some(3)),
+        (Kind::Class, |r| r.message_class = Some(0x1_0000)),
+    ];
+    for (kind, fail) in steps {
+        fail(&mut request);
+        check(&request, kind);
+    }
+    request.priority = Some(8);
+    check(&request, Kind::RequestRange);
+
+    let good = full(&title, &name);
+    for request in [
+        Request { trace: Some(2), ..good },
+        Request { delivery: Some(2), ..good },
+        Request { acknowledge: Some(16), ..good },
+        Request { auditing: Some(4), ..good },
+    ] {
+        check(&request, Kind::RequestRange);
+    }
+    for request in [
+        Request { sender_kind: Some(3), ..good },
+        Request { sender_kind: None, ..good },
+        Request { sender_id: &[2; 12], ..good },
+    ] {
+        check(&request, Kind::RequestIdentity);
+    }
+    for request in [
+        Request { provider_name: &long_name, ..good },
+        Request { provider_name: &zero_name, ..good },
+        Request { default_provider: true, ..good },
+        Request { default_provider: true, provider_type: None, ..good },
+    ] {
+        check(&request, Kind::RequestProvider);
+    }
+    for request in [
+        Request { split_number: Some(3), ..good },
+        Request { split_number: Some(15), ..good },
+        Request { split_number: Some(0), provider_name_length: u32::MAX, ..good },
+    ] {
+        check(&request, Kind::SplitNumber);
+    }
+    for request in [
+        Request { encryption_key: &long, ..good },
+        Request { signature: &long, split_number: None, ..good },
+        Request { sender_cert: &long, ..good },
+    ] {
+        check(&request, Kind::PartTooLarge);
+    }
+    check(&Request { extension: &huge, ..good }, Kind::AboveTheLimit);
+    check(&Request { body: Some(Body { bytes: b"", allocation: LIMIT + 1 }), ..good }, Kind::Allocation);
+    assert!(send_vec(&Request { signature: &long, ..good }).is_ok(), "the split comes before the size");
+}
+
+/// Refused by both functions, with the output as it stood.
+fn check(request: &Request<'_>, kind: Kind) {
+    let mut out = vec![0x55; 1_000];
+    assert_eq!(defaulted(request), Err(refused(kind)));
+    assert_eq!(send(request, &mut out), Err(refused(kind)));
+    assert!(out.iter().all(|&byte| byte == 0x55));
+}
+
+#[test]
+fn a_short_output_stays_as_it_stood() {
+    let (title, name) = (units("Rope 7"), units("Provider"));
+    let request = full(&title, &name);
+    let length = send_vec(&request).unwrap().len();
+    for room in 0..length {
+        let mut out = vec![0x55; room];
+        assert_eq!(send(&request, &mut out), Err(refused(Kind::OutputShort)));
+        assert!(out.iter().all(|&byte| byte == 0x55));
+    }
+    let mut out = vec![0x55; length + 3];
+    assert_eq!(send(&request, &mut out), Ok(length));
+    assert_eq!(out[length..], [0x55; 3]);
+    assert_eq!(send(&Request::default(), &mut []), Err(refused(Kind::OutputShort)));
+}

@@ -24,6 +24,7 @@ pub(crate) struct Part {
 }
 
 #[repr(C)]
+#[derive(Clone, Copy)]
 pub(crate) struct SecurityFields {
     pub flags: u32,
     pub sender_id_size: usize,
@@ -34,6 +35,7 @@ pub(crate) struct SecurityFields {
 }
 
 #[repr(C)]
+#[derive(Clone, Copy)]
 pub(crate) struct SecurityParts {
     pub sender_id: Part,
     pub encryption_key: Part,
@@ -44,6 +46,7 @@ pub(crate) struct SecurityParts {
 }
 
 #[repr(C)]
+#[derive(Clone, Copy)]
 pub(crate) struct SecurityHeader {
     pub fields: SecurityFields,
     pub parts: SecurityParts,
@@ -53,6 +56,7 @@ pub(crate) struct SecurityHeader {
 }
 
 #[repr(C)]
+#[derive(Clone, Copy)]
 pub(crate) struct PropertiesFields {
     pub flags: u8,
     /// In 16-bit units.
@@ -68,6 +72,7 @@ pub(crate) struct PropertiesFields {
 }
 
 #[repr(C)]
+#[derive(Clone, Copy)]
 pub(crate) struct PropertiesParts {
     pub label: Part,
     pub extension: Part,
@@ -76,6 +81,7 @@ pub(crate) struct PropertiesParts {
 }
 
 #[repr(C)]
+#[derive(Clone, Copy)]
 pub(crate) struct Summary {
     pub security_first: bool,
     pub security: SecurityHeader,
@@ -86,6 +92,7 @@ pub(crate) struct Summary {
 }
 
 #[repr(C)]
+#[derive(Clone, Copy)]
 pub(crate) struct Section {
     pub summary: Summary,
     pub correlation_id: Part,

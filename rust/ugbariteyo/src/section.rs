@@ -164,189 +164,193 @@ impl<'a> Security<'a> {
 ///
 /// Everything is borrowed from the input. Its `Debug` shows the summary only, so that no key, finding or
 /// signature gets into a log.
-#[derive(Clone, Copy, PartialEq, Eq)]
+#[derive(Clone, Copy)]
 pub struct Reading<'a> {
-    summary: Summary<'a>,
-    application_tag: u32,
-    correlation_id: &'a [u8; 20],
-    sender_id: &'a [u8],
-    encryption_key: &'a [u8],
-    signature: &'a [u8],
-    sender_cert: &'a [u8],
-    provider_info: &'a [u8],
-    extension: &'a [u8],
-    body: &'a [u8],
+    input: &'a [u8],
+    section: ffi::Section,
 }
 
 impl<'a> Reading<'a> {
-    fn new(section: &ffi::Section, input: &'a [u8]) -> Self {
-        let security = &section.summary.security.parts;
-        let part = |part: ffi::Part| Part::from(part).of(input);
-        let correlation_id = &input[section.correlation_id.start..];
-        Self {
-            summary: Summary::new(&section.summary, input),
-            application_tag: section.application_tag,
-            correlation_id: correlation_id.first_chunk().expect("a section holds 20 bytes of CorrelationID"),
-            sender_id: part(security.sender_id),
-            encryption_key: part(security.encryption_key),
-            signature: part(security.signature),
-            sender_cert: part(security.sender_cert),
-            provider_info: part(security.provider_info),
-            extension: part(section.summary.parts.extension),
-            body: part(section.summary.parts.body),
-        }
+    fn part(&self, part: ffi::Part) -> &'a [u8] {
+        Part::from(part).of(self.input)
     }
 
     /// The summary, which holds nothing private.
     pub fn summary(&self) -> Summary<'a> {
-        self.summary
+        Summary::new(&self.section.summary, self.input)
     }
 
     /// Whether a SecurityHeader stands first.
     pub fn security_first(&self) -> bool {
-        self.summary.security.is_some()
+        self.section.summary.security_first
     }
 
     /// The section's length, padding included. Bytes behind it were not read.
     pub fn section_length(&self) -> usize {
-        self.summary.section_length
+        self.section.summary.parts.section_length
     }
 
     /// The verdict "authentication fails": PrivacyLevel, or HashAlgorithm beside a signature, is none of
     /// those listed.
     pub fn authentication_fails(&self) -> bool {
-        self.summary.authentication_fails
+        self.section.summary.authentication_fails
     }
 
     /// The verdict "decryption fails": EB is set, and EncryptionAlgorithm is none of those listed.
     pub fn decryption_fails(&self) -> bool {
-        self.summary.decryption_fails
+        self.section.summary.decryption_fails
     }
 
     /// The SecurityHeader's Flags; zero where there is none.
     pub fn security_flags(&self) -> SecurityFlags {
-        self.summary.security.map(|security| security.flags).unwrap_or_default()
+        // only bits 0 to 11 are there
+        SecurityFlags(self.section.summary.security.fields.flags as u16)
     }
 
     /// The identity: a SID for sender kind 1, the GUID of a queue manager for 2.
     pub fn sender_id(&self) -> &'a [u8] {
-        self.sender_id
+        self.part(self.section.summary.security.parts.sender_id)
     }
 
     /// The key.
     pub fn encryption_key(&self) -> &'a [u8] {
-        self.encryption_key
+        self.part(self.section.summary.security.parts.encryption_key)
     }
 
     /// The signature.
     pub fn signature(&self) -> &'a [u8] {
-        self.signature
+        self.part(self.section.summary.security.parts.signature)
     }
 
     /// The certificate.
     pub fn sender_cert(&self) -> &'a [u8] {
-        self.sender_cert
+        self.part(self.section.summary.security.parts.sender_cert)
     }
 
     /// Provider info: a type of 4 bytes and the name, or nothing.
     pub fn provider_info(&self) -> &'a [u8] {
-        self.provider_info
+        self.part(self.section.summary.security.parts.provider_info)
     }
 
     /// The provider's type, where there is provider info.
     pub fn provider_type(&self) -> Option<u32> {
-        self.summary.security?.provider_type
+        let security = &self.section.summary.security;
+        (security.parts.provider_info.length != 0).then_some(security.provider_type)
     }
 
     /// The provider's name.
     pub fn provider_name(&self) -> Text<'a> {
-        self.summary.security.map(|security| security.provider_name).unwrap_or_default()
+        Text::new(self.provider_info().get(4..).unwrap_or_default())
     }
 
     /// The properties' Flags.
     pub fn flags(&self) -> PropertiesFlags {
-        self.summary.flags
+        PropertiesFlags(self.section.summary.properties.flags)
     }
 
     /// LabelLength, null included.
     pub fn label_length(&self) -> Units {
-        self.summary.label_length
+        Units(self.section.summary.properties.label_length)
     }
 
     /// MessageClass.
     pub fn message_class(&self) -> u16 {
-        self.summary.message_class
+        self.section.summary.properties.message_class
     }
 
     /// CorrelationID.
     pub fn correlation_id(&self) -> &'a [u8; 20] {
-        self.correlation_id
+        let bytes = self.part(self.section.correlation_id);
+        bytes.try_into().expect("CorrelationID has 20 bytes")
     }
 
     /// BodyType.
     pub fn body_type(&self) -> u32 {
-        self.summary.body_type
+        self.section.summary.properties.body_type
     }
 
     /// ApplicationTag.
     pub fn application_tag(&self) -> u32 {
-        self.application_tag
+        self.section.application_tag
     }
 
     /// MessageSize, in bytes: the length of the body.
     pub fn message_size(&self) -> usize {
-        self.summary.message_size
+        self.section.summary.properties.message_size
     }
 
     /// AllocationBodySize, in bytes.
     pub fn allocation_body_size(&self) -> usize {
-        self.summary.allocation_body_size
+        self.section.summary.properties.allocation_body_size
     }
 
     /// PrivacyLevel.
     pub fn privacy_level(&self) -> u32 {
-        self.summary.privacy_level
+        self.section.summary.properties.privacy_level
     }
 
     /// HashAlgorithm.
     pub fn hash_algorithm(&self) -> u32 {
-        self.summary.hash_algorithm
+        self.section.summary.properties.hash_algorithm
     }
 
     /// EncryptionAlgorithm.
     pub fn encryption_algorithm(&self) -> u32 {
-        self.summary.encryption_algorithm
+        self.section.summary.properties.encryption_algorithm
     }
 
     /// ExtensionSize, in bytes: the length of the extension.
     pub fn extension_size(&self) -> usize {
-        self.summary.extension_size
+        self.section.summary.properties.extension_size
     }
 
     /// The label's bytes, null included; nothing where LabelLength is 0.
     pub fn label(&self) -> &'a [u8] {
-        self.summary.label.bytes()
+        self.part(self.section.summary.parts.label)
     }
 
     /// The label as text.
     pub fn label_text(&self) -> Text<'a> {
-        self.summary.label
+        Text::new(self.label())
     }
 
     /// The extension.
     pub fn extension(&self) -> &'a [u8] {
-        self.extension
+        self.part(self.section.summary.parts.extension)
     }
 
     /// The body: MessageSize bytes.
     pub fn body(&self) -> &'a [u8] {
-        self.body
+        self.part(self.section.summary.parts.body)
+    }
+
+    /// The private values and parts, in their order.
+    fn private(&self) -> (u32, [&'a [u8]; 7]) {
+        let parts = [
+            &self.correlation_id()[..],
+            self.sender_id(),
+            self.encryption_key(),
+            self.signature(),
+            self.sender_cert(),
+            self.extension(),
+            self.body(),
+        ];
+        (self.application_tag(), parts)
     }
 }
 
+/// Two readings are equal when their summaries and all private values and parts are.
+impl PartialEq for Reading<'_> {
+    fn eq(&self, other: &Self) -> bool {
+        self.summary() == other.summary() && self.private() == other.private()
+    }
+}
+
+impl Eq for Reading<'_> {}
+
 impl fmt::Debug for Reading<'_> {
     fn fmt(&self, f: &mut fmt::Formatter<'_>) -> fmt::Result {
-        f.debug_struct("Reading").field("summary", &self.summary).finish_non_exhaustive()
+        f.debug_struct("Reading").field("summary", &self.summary()).finish_non_exhaustive()
     }
 }
 
@@ -361,7 +365,7 @@ impl fmt::Debug for Reading<'_> {
 pub fn read(input: &[u8], security_first: bool) -> Result<Reading<'_>, Refusal> {
     let answer = ffi::read(input, security_first);
     accepted(answer.refusal)?;
-    Ok(Reading::new(&answer.section, input))
+    Ok(Reading { input, section: answer.section })
 }
 
 /// The summary of the section at the start of `input`. Refused as [`read`] is.

@@ -6,4 +6,4 @@ pub mod section;
 mod signature;
 mod steps;
 mod text;
-mod values;
+pub mod values;

@@ -10,6 +10,7 @@ use requests::properties::Defaulted;
 use requests::properties::Properties;
 use requests::request::Request;
 use requests::section::security_first;
+use requests::values;
 use rules::section::CorrelationId;
 use rules::section::Output;
 use writing::section::write_section;
@@ -41,8 +42,7 @@ fn write_provider(
     if request.default_provider {
         return 0;
     }
-    let provider_type = request.provider_type;
-    write_provider_info(provider_type.value_or(0), provider_name, out)
+    write_provider_info(values::provider_type(request), provider_name, out)
 }
 
 // A legal request: no step but that of the output is left.

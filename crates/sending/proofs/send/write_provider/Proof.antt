@@ -34,8 +34,8 @@ returns-2 c =
       λ i t d k e x b. rw (info-default (asked s i t d k e x b) (c .if2 .taken)) (written-none (now (s .args .out)) .bytes),
     )
 
-value-or-requires : tie.Need-value-or-requires
-value-or-requires c κs = search needs
+provider-type-requires : tie.Need-provider-type-requires
+provider-type-requires c κs = search needs
 
 write-provider-info-requires : tie.Need-write-provider-info-requires
 write-provider-info-requires c κs =
@@ -51,7 +51,7 @@ same-length c = search needs
 returns-3 : tie.Need-returns-3
 returns-3 c =
     let made = c .before .before in
-    let value = made .before .before .value-or in
+    let value = made .before .before .provider-type in
     let s = made .before .before .before .before .before .before .before .before in
     let name = now (s .args .provider-name) in
     let written = made .write-provider-info .ensures in
@@ -69,7 +69,7 @@ write-provider-spec =
     (tie.spec
     returns
     returns-2
-    value-or-requires
+    provider-type-requires
     write-provider-info-requires
     same-length
     returns-3)

@@ -1,5 +1,5 @@
 //! Message-queue sections (an optional SecurityHeader and a MessagePropertiesHeader), their support copies,
-//! and queue formats: a safe interface to the proved library.
+//! queue formats and send requests: a safe interface to the proved library.
 //!
 //! Every call answers for every input: the answer, or a [`Refusal`] with its number and place. Nothing has to
 //! be checked beforehand, a refusal leaves a lent output as it stood, and what is read is borrowed from the

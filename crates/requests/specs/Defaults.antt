@@ -15,34 +15,35 @@ use Rattle.requests.specs.declared.request.Body.{Body}
 use Rattle.requests.specs.declared.request.Body.the-variants.{Absent as Body·Absent, Given as Body·Given}
 use Rattle.requests.specs.declared.request.Correlation.{Correlation}
 use Rattle.requests.specs.declared.request.Correlation.the-variants.{Absent as Correlation·Absent, Given as Correlation·Given}
+use Rattle.requests.specs.declared.request.Request.{Request}
 use Rattle.requests.specs.declared.request.Number.{Number}
 use Rattle.requests.specs.declared.request.Number.the-variants.{Absent, Given}
 
 -- "An absent value gets: priority 3, and 0 for trace, delivery, auditing, class, acknowledge, tag, privacy, hash, encryption algorithm, body type, provider type"
-abbrev pub priority : SendRequest → ℕ
-priority q = valueOr 3 (q .values .priority)
+abbrev pub priority : Request → ℕ
+priority v = valueOr 3 (v .priority)
 
-abbrev pub trace : SendRequest → ℕ
-trace q = valueOr 0 (q .values .trace)
+abbrev pub trace : Request → ℕ
+trace v = valueOr 0 (v .trace)
 
 -- the delivery that step 1 looks at
-abbrev pub deliveryGiven : SendRequest → ℕ
-deliveryGiven q = valueOr 0 (q .values .delivery)
+abbrev pub deliveryGiven : Request → ℕ
+deliveryGiven v = valueOr 0 (v .delivery)
 
-abbrev pub auditing : SendRequest → ℕ
-auditing q = valueOr 0 (q .values .auditing)
+abbrev pub auditing : Request → ℕ
+auditing v = valueOr 0 (v .auditing)
 
 abbrev pub class : SendRequest → ℕ
 class q = valueOr 0 (q .values .«message_class»)
 
-abbrev pub acknowledge : SendRequest → ℕ
-acknowledge q = valueOr 0 (q .values .acknowledge)
+abbrev pub acknowledge : Request → ℕ
+acknowledge v = valueOr 0 (v .acknowledge)
 
 abbrev pub tag : SendRequest → ℕ
 tag q = valueOr 0 (q .values .«application_tag»)
 
-abbrev pub privacy : SendRequest → ℕ
-privacy q = valueOr 0 (q .values .«privacy_level»)
+abbrev pub privacy : Request → ℕ
+privacy v = valueOr 0 (v .«privacy_level»)
 
 abbrev pub hash : SendRequest → ℕ
 hash q = valueOr 0 (q .values .«hash_algorithm»)
@@ -70,7 +71,7 @@ correlation q = correlationOr (q .correlationId) (q .values .correlation)
 
 -- "A transaction makes delivery 1, but only after step 1."
 unfoldable pub delivery : SendRequest → ℕ
-delivery q = cond (q .values .transaction) 1 (deliveryGiven q)
+delivery q = cond (q .values .transaction) 1 (deliveryGiven (q .values))
 
 -- "an absent body has size and allocation 0"
 unfoldable pub bodyOr : List ℕ → Body → List ℕ
@@ -119,10 +120,10 @@ propertiesOf q =
       handling =
           Handling·Known
           (record {
-            priority = priority q;
-            trace = trace q;
+            priority = priority (q .values);
+            trace = trace (q .values);
             delivery = delivery q;
-            auditing = auditing q;
+            auditing = auditing (q .values);
             transaction = q .values .transaction;
             «direct_queue» = q .values .«direct_queue»;
             «split_number» = q .values .«split_number»;
@@ -133,9 +134,9 @@ propertiesOf q =
           (record { kind = kind q; «default_provider» = q .values .«default_provider»; encryption = encryption q });
       «provider_type» = ProviderType·Known (providerType q);
       «message_class» = class q;
-      acknowledge = acknowledge q;
+      acknowledge = acknowledge (q .values);
       «application_tag» = tag q;
-      «privacy_level» = privacy q;
+      «privacy_level» = privacy (q .values);
       «hash_algorithm» = hash q;
       «encryption_algorithm» = encryptionAlgorithm q;
       «body_type» = bodyType q;

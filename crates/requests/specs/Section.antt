@@ -59,13 +59,13 @@ securityFieldsOf q =
 unfoldable pub propertiesFieldsOf : SendRequest → PropertiesFields
 propertiesFieldsOf q =
     record {
-      flags = acknowledge q;
+      flags = acknowledge (q .values);
       «label_length» = record { 0 = length (label q) / 2 };
       «message_class» = class q;
       «body_type» = bodyType q;
       «message_size» = bytes (length (body q));
       «allocation_body_size» = bytes (allocation q);
-      «privacy_level» = packetPrivacy (privacy q);
+      «privacy_level» = packetPrivacy (privacy (q .values));
       «hash_algorithm» = hash q;
       «encryption_algorithm» = encryptionAlgorithm q;
       «extension_size» = bytes (length (q .extension));

@@ -14,6 +14,7 @@ use Rattle.requests.specs.Request.{SendRequest, isGiven}
 use Rattle.requests.specs.Section.{sectionLength, securityFieldsOf, signed}
 use Rattle.requests.specs.declared.properties.Defaulted.{Defaulted}
 use Rattle.requests.specs.declared.properties.Defaulted.the-variants.{Properties as Defaulted·Properties, Refused as Defaulted·Refused}
+use Rattle.requests.specs.declared.request.Request.{Request}
 use Rattle.requests.specs.declared.request.Number.{Number}
 use Rattle.requests.specs.declared.request.Number.the-variants.{Absent, Given}
 
@@ -21,19 +22,19 @@ abbrev pub refused : ℕ → Checked
 refused number = Refused (refusal number 0)
 
 -- 1: "Priority above 7, trace or delivery above 1, acknowledge above 15, or auditing above 3"
-unfoldable pub outOfRange : SendRequest → Bool
-outOfRange q =
-    ltb 7 (priority q) || ltb 1 (trace q) || ltb 1 (deliveryGiven q) || ltb 15 (acknowledge q) || ltb 3 (auditing q)
+unfoldable pub outOfRange : Request → Bool
+outOfRange v =
+    ltb 7 (priority v) || ltb 1 (trace v) || ltb 1 (deliveryGiven v) || ltb 15 (acknowledge v) || ltb 3 (auditing v)
 
 -- 2
-unfoldable pub directPrivacy : SendRequest → Bool
-directPrivacy q = q .values .«direct_queue» && not (eqb (privacy q) 0)
+unfoldable pub directPrivacy : Request → Bool
+directPrivacy v = v .«direct_queue» && not (eqb (privacy v) 0)
 
-unfoldable pub algorithmMissing : SendRequest → Bool
-algorithmMissing q = isGiven (q .values .«privacy_level») && not (isGiven (q .values .«encryption_algorithm»))
+unfoldable pub algorithmMissing : Request → Bool
+algorithmMissing v = isGiven (v .«privacy_level») && not (isGiven (v .«encryption_algorithm»))
 
-unfoldable pub hashMissing : SendRequest → Bool
-hashMissing q = signed q && not (isGiven (q .values .«hash_algorithm»))
+unfoldable pub hashMissing : Request → List ℕ → Bool
+hashMissing v signature = not (eqb (length signature) 0) && not (isGiven (v .«hash_algorithm»))
 
 -- 3: "kind above 2 or identity not as S6 and S10"
 unfoldable pub identityFails : SendRequest → Bool
@@ -88,15 +89,21 @@ senderSteps q =
     (cond (splitFails q) (refused 27)  -- 5
     (sectionSteps q)))
 
+-- 2, then 3 to 6
+unfoldable pub privacySteps : SendRequest → Checked
+privacySteps q =
+    cond (ltb 2 (privacy (q .values))) (refused 21)  -- "Privacy not 0, 1, 2"
+    (cond (directPrivacy (q .values)) (refused 22)
+    (cond (algorithmMissing (q .values)) (refused 23)
+    (cond (hashMissing (q .values) (q .signature)) (refused 24)
+    (senderSteps q))))
+
+-- 1, then 2 to 6
 unfoldable pub requestSteps : SendRequest → Checked
 requestSteps q =
-    cond (outOfRange q) (refused 20)  -- 1
+    cond (outOfRange (q .values)) (refused 20)
     (cond (not (listed classes (class q))) (refused 10)
-    (cond (ltb 2 (privacy q)) (refused 21)  -- 2: "Privacy not 0, 1, 2"
-    (cond (directPrivacy q) (refused 22)
-    (cond (algorithmMissing q) (refused 23)
-    (cond (hashMissing q) (refused 24)
-    (senderSteps q))))))
+    (privacySteps q))
 
 -- what the one function that makes the defaulted properties answers
 unfoldable pub answerOf : SendRequest → Checked → Defaulted

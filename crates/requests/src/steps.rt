@@ -22,7 +22,7 @@ ghost use Rattle.requests.specs.Steps.{algorithmMissing, directPrivacy, 
 
 // 1, of the values as they were given: a transaction changes delivery only later.
 fn out_of_range(request: Request) -> bool
-    ensures { λ r. ⌜ ((i t d k s c n x b : List ℕ) → r ≡ outOfRange (sendRequest request i t d k s c n x b)) ⌝ }
+    ensures { λ r. ⌜ r ≡ outOfRange request ⌝ }
 {
     if 7 < values::priority(request) {
         return true;
@@ -51,7 +51,7 @@ fn class_is_listed(class: u32) -> bool
 
 // 2
 fn direct_privacy(request: Request) -> bool
-    ensures { λ r. ⌜ ((i t d k s c n x b : List ℕ) → r ≡ directPrivacy (sendRequest request i t d k s c n x b)) ⌝ }
+    ensures { λ r. ⌜ r ≡ directPrivacy request ⌝ }
 {
     if !request.direct_queue {
         return false;
@@ -60,7 +60,7 @@ fn direct_privacy(request: Request) -> bool
 }
 
 fn algorithm_missing(request: Request) -> bool
-    ensures { λ r. ⌜ ((i t d k s c n x b : List ℕ) → r ≡ algorithmMissing (sendRequest request i t d k s c n x b)) ⌝ }
+    ensures { λ r. ⌜ r ≡ algorithmMissing request ⌝ }
 {
     let privacy = request.privacy_level;
     let algorithm = request.encryption_algorithm;
@@ -71,7 +71,7 @@ fn algorithm_missing(request: Request) -> bool
 }
 
 fn hash_missing(request: Request, signature: &[u8]) -> bool
-    ensures { λ r. ⌜ ((i t d k c n x b : List ℕ) → r ≡ hashMissing (sendRequest request i t d k (now (signature .entry)) c n x b)) ⌝ }
+    ensures { λ r. ⌜ r ≡ hashMissing request (now (signature .entry)) ⌝ }
 {
     if signature.len() == 0 {
         return false;

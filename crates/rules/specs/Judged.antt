@@ -6,8 +6,9 @@ use mathlib.Core.List.{List, [], _∷_, _++_}
 use lib.ListN.{length, getD, replicate}
 use lib.Dec.{eqb}
 use Rattle.octets.specs.Padding.{padding}
-use Rattle.rules.specs.Properties.{labelBytes, propertiesLength}
-use Rattle.rules.specs.Security.{ST, providerAt}
+use Rattle.rules.specs.Properties.{labelBytes, propertiesRow}
+use Rattle.rules.specs.Row.{rowBits}
+use Rattle.rules.specs.Security.{ST, securityRow}
 use Rattle.rules.specs.declared.properties.PropertiesFields.{PropertiesFields}
 use Rattle.rules.specs.declared.section.Summary.{Summary}
 use Rattle.rules.specs.declared.security.SecurityFields.{SecurityFields}
@@ -16,30 +17,43 @@ use Rattle.rules.specs.declared.security.SecurityFields.{SecurityFields}
 unfoldable pub judgedIdentity : SecurityFields → ℕ
 judgedIdentity f = cond (eqb (ST f) 1) (min 2 (f .«sender_id_size» .0)) 0
 
--- Of each byte, in order, how many of its lowest bits are judged: `replicate n k` is n bytes of which the lowest k bits are.
-unfoldable pub securityMask : SecurityFields → List ℕ
-securityMask f =
-    replicate 1 8  -- Flags bits 0 to 7
-    ++ (replicate 1 4  -- Flags bits 8 to 11
-    ++ (replicate 14 8  -- the five sizes
-    ++ (replicate (judgedIdentity f) 8
-    ++ (replicate (providerAt f - (16 + judgedIdentity f)) 0  -- the rest of identity, key, signature and certificate
-    ++ (replicate (f .«provider_info_size» .0) 8  -- all provider info
-    ++ replicate (padding 4 (f .«provider_info_size» .0)) 0)))))  -- without its padding
+-- Of each byte, in order, how many of its lowest bits count, where p of a private byte's do: `replicate n k` is n bytes of which the lowest k bits are.
+-- a part of n bytes, of which the first j are judged, and its padding
+unfoldable pub partBits : ℕ → ℕ → ℕ → List ℕ
+partBits p j n = replicate j 8 ++ replicate (n - j) p ++ replicate (padding 4 n) 0
 
-unfoldable pub propertiesMask : PropertiesFields → List ℕ
-propertiesMask f =
-    replicate 1 4  -- Flags low four bits
-    ++ (replicate 3 8  -- LabelLength, MessageClass
-    ++ (replicate 20 0  -- CorrelationID
-    ++ (replicate 4 8  -- BodyType
-    ++ (replicate 4 0  -- ApplicationTag
-    ++ (replicate 24 8  -- the two body sizes, PrivacyLevel, both algorithms, ExtensionSize
+unfoldable pub securityBits : ℕ → SecurityFields → List ℕ
+securityBits p f =
+    rowBits p securityRow  -- Flags bits 0 to 11, the five sizes
+    ++ (partBits p (judgedIdentity f) (f .«sender_id_size» .0)
+    ++ (partBits p 0 (f .«encryption_key_size» .0)
+    ++ (partBits p 0 (f .«signature_size» .0)
+    ++ (partBits p 0 (f .«sender_cert_size» .0)
+    ++ partBits p (f .«provider_info_size» .0) (f .«provider_info_size» .0)))))  -- "all provider info without its padding"
+
+unfoldable pub propertiesBits : ℕ → PropertiesFields → List ℕ
+propertiesBits p f =
+    rowBits p propertiesRow  -- all fields but CorrelationID and ApplicationTag, four bits of Flags
     ++ (replicate (labelBytes f) 8  -- the label
-    ++ replicate (propertiesLength f - (56 + labelBytes f)) 0))))))  -- extension, body, padding
+    ++ (replicate (f .«extension_size» .0) p ++ replicate (f .«message_size» .0) p))
+    ++ replicate (padding 4 (56 + labelBytes f + f .«extension_size» .0 + f .«message_size» .0)) 0
 
-unfoldable pub judged : Summary → List ℕ
-judged m = cond (m .«security_first») (securityMask (m .security .fields)) [] ++ propertiesMask (m .properties)
+unfoldable pub sectionBits : ℕ → Summary → List ℕ
+sectionBits p m = cond (m .«security_first») (securityBits p (m .security .fields)) [] ++ propertiesBits p (m .properties)
+
+-- what is judged: no bit of a private byte
+abbrev pub securityMask : SecurityFields → List ℕ
+securityMask f = securityBits 0 f
+
+abbrev pub propertiesMask : PropertiesFields → List ℕ
+propertiesMask f = propertiesBits 0 f
+
+abbrev pub judged : Summary → List ℕ
+judged m = sectionBits 0 m
+
+-- what a section carries: all but X bits and padding
+abbrev pub carried : Summary → List ℕ
+carried m = sectionBits 8 m
 
 -- bit j of a byte
 abbrev pub bit : ℕ → ℕ → ℕ

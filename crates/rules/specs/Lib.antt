@@ -4,6 +4,7 @@ pub mod Listed
 pub mod Properties
 pub mod Reading
 pub mod Refusal
+pub mod Row
 pub mod Security
 pub mod Summary
 pub mod Support

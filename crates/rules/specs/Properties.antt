@@ -1,14 +1,15 @@
 -- 01, MessagePropertiesHeader at p: fields, parts, and the steps on them.
 use Prim.Native.Nat.{ℕ, _+_, _*_, _%_}
-use mathlib.Core.List.{List}
+use mathlib.Core.List.{List, [], _∷_}
 use mathlib.Core.Bool.{Bool, not, _||_, cond}
-use lib.ListN.{length, getD}
+use lib.ListN.{length}
 use lib.Dec.{eqb, ltb}
 use Rattle.octets.specs.Number.{le}
 use Rattle.octets.specs.Padding.{padded}
 use Rattle.octets.specs.Text.{isText}
 use Rattle.rules.specs.Listed.{listed, classes}
 use Rattle.rules.specs.Refusal.{bytes, refusal, limit}
+use Rattle.rules.specs.Row.{Field, number, low, private}
 use Rattle.rules.specs.Security.{part}
 use Rattle.rules.specs.declared.refusal.Checked.{Checked}
 use Rattle.rules.specs.declared.refusal.Checked.the-variants.{Passed, Refused as Checked·Refused}
@@ -21,8 +22,8 @@ use Rattle.rules.specs.declared.properties.PropertiesLayout.the-variants
 unfoldable pub propertiesFields : List ℕ → PropertiesFields
 propertiesFields h =
     record {
-      flags = getD h 0 0 % 16;
-      «label_length» = record { 0 = getD h 1 0 };
+      flags = le 1 h 0 % 16;
+      «label_length» = record { 0 = le 1 h 1 };
       «message_class» = le 2 h 2;
       «body_type» = le 4 h 24;
       «message_size» = bytes (le 4 h 32);
@@ -32,6 +33,29 @@ propertiesFields h =
       «encryption_algorithm» = le 4 h 48;
       «extension_size» = bytes (le 4 h 52);
     }
+
+-- all that the fixed bytes hold: those fields, and the two that the full reading adds, by their bytes
+pub record FixedProperties : Type 0 where
+  pub fields : PropertiesFields
+  pub correlationId : List ℕ
+  pub applicationTag : List ℕ
+
+-- the same as a row, by their widths: what is written and what is judged follow from it
+unfoldable pub propertiesRow : List (Field FixedProperties)
+propertiesRow =
+    low 1 4 (λ x. x .fields .flags)  -- four X bits
+    ∷ number 1 (λ x. x .fields .«label_length» .0)
+    ∷ number 2 (λ x. x .fields .«message_class»)
+    ∷ private 20 (λ x. x .correlationId)
+    ∷ number 4 (λ x. x .fields .«body_type»)
+    ∷ private 4 (λ x. x .applicationTag)
+    ∷ number 4 (λ x. x .fields .«message_size» .0)
+    ∷ number 4 (λ x. x .fields .«allocation_body_size» .0)
+    ∷ number 4 (λ x. x .fields .«privacy_level»)
+    ∷ number 4 (λ x. x .fields .«hash_algorithm»)
+    ∷ number 4 (λ x. x .fields .«encryption_algorithm»)
+    ∷ number 4 (λ x. x .fields .«extension_size» .0)
+    ∷ []
 
 -- "LabelLength and the title count 16-bit units": the label's bytes
 abbrev pub labelBytes : PropertiesFields → ℕ

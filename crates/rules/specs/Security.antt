@@ -1,6 +1,6 @@
 -- 01, SecurityHeader: fields, parts, and the steps on them.
 use Prim.Native.Nat.{ℕ, _+_, _-_, _/_, _%_}
-use mathlib.Core.List.{List}
+use mathlib.Core.List.{List, [], _∷_}
 use mathlib.Core.Bool.{Bool, not, _&&_, _||_, cond}
 use lib.ListN.{length, getD, drop}
 use lib.Dec.{eqb, ltb, leb}
@@ -8,6 +8,7 @@ use Rattle.octets.specs.Number.{le}
 use Rattle.octets.specs.Padding.{padded}
 use Rattle.octets.specs.Text.{isText}
 use Rattle.rules.specs.Refusal.{bytes, refusal, limit}
+use Rattle.rules.specs.Row.{Field, number, low}
 use Rattle.rules.specs.declared.refusal.Checked.{Checked}
 use Rattle.rules.specs.declared.refusal.Checked.the-variants.{Passed, Refused as Checked·Refused}
 use Rattle.rules.specs.declared.section.Part.{Part}
@@ -30,6 +31,17 @@ securityFields h =
       «sender_cert_size» = bytes (le 4 h 8);
       «provider_info_size» = bytes (le 4 h 12);
     }
+
+-- the same fields as a row, by their widths: what is written and what is judged follow from it
+unfoldable pub securityRow : List (Field SecurityFields)
+securityRow =
+    low 2 12 (λ f. f .flags)  -- X12 to X15
+    ∷ number 2 (λ f. f .«sender_id_size» .0)
+    ∷ number 2 (λ f. f .«encryption_key_size» .0)
+    ∷ number 2 (λ f. f .«signature_size» .0)
+    ∷ number 4 (λ f. f .«sender_cert_size» .0)
+    ∷ number 4 (λ f. f .«provider_info_size» .0)
+    ∷ []
 
 -- "Flag bits from the lowest: ST 0 to 3, AU 4, EB 5, DE 6, DP 7, AS 8 to 11, X12 to X15"
 abbrev pub ST : SecurityFields → ℕ
@@ -100,16 +112,22 @@ providerSize de signature n =
     (cond (ltb 0 signature) (eqb (n % 2) 0 && leb 8 n)
     (eqb n 0 || (eqb (n % 2) 0 && leb 6 n)))
 
+-- S5 to S8: the sizes
+unfoldable pub sizeSteps : SecurityFields → ℕ → SecurityLayout
+sizeSteps f at =
+    cond (ltb 65535 (f .«sender_cert_size» .0)) (Refused (refusal 5 at))  -- S5
+    (cond (not (identitySize (ST f) (f .«sender_id_size» .0))) (Refused (refusal 6 at))  -- S6
+    (cond (not (providerSize (DE f) (f .«signature_size» .0) (f .«provider_info_size» .0))) (Refused (refusal 7 at))  -- S7
+    (cond (ltb limit (securityLength f)) (Refused (refusal 8 at))  -- S8
+    (Fits (securityParts f)))))
+
+-- S2 to S4: the flags; then the sizes
 unfoldable pub securitySteps : SecurityFields → ℕ → SecurityLayout
 securitySteps f at =
     cond (ltb 2 (ST f)) (Refused (refusal 2 at))  -- S2
     (cond (not (eqb (AU f) 0) || not (eqb (AS f) 0)) (Refused (refusal 3 at))  -- S3
     (cond (allEmpty f || eqb (DP f) 0) (Refused (refusal 4 at))  -- S4
-    (cond (ltb 65535 (f .«sender_cert_size» .0)) (Refused (refusal 5 at))  -- S5
-    (cond (not (identitySize (ST f) (f .«sender_id_size» .0))) (Refused (refusal 6 at))  -- S6
-    (cond (not (providerSize (DE f) (f .«signature_size» .0) (f .«provider_info_size» .0))) (Refused (refusal 7 at))  -- S7
-    (cond (ltb limit (securityLength f)) (Refused (refusal 8 at))  -- S8
-    (Fits (securityParts f))))))))
+    (sizeSteps f at)))
 
 -- S10: "ST 1: first identity byte is 1 and the second is k (MS-DTYP 2.4.2.2)"
 unfoldable pub identityHead : SecurityFields → List ℕ → Bool

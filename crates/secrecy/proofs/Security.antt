@@ -1,109 +1,26 @@
 -- Which of a SecurityHeader the mask counts: its fields, the head of the identity for ST 1, and the provider info.
-use Prim.Native.Nat.{ℕ, _+_, _*_, _-_, _/_, _%_, _≤_, _<_, min}
-use mathlib.Core.Path.{_≡_, refl, sym, ap, ap₂, subst, _∙_}
+use Prim.Native.Nat.{ℕ, _+_, _≤_, _<_, min}
+use mathlib.Core.Path.{_≡_, refl, sym, subst, _∙_}
 use mathlib.Core.Logic.{_↔_}
 use mathlib.Core.Bool.{Bool, true, false, cond}
-use mathlib.Core.List.{List, _++_}
+use mathlib.Core.List.{List}
 use native.Mathlib.Omega.{arith}
-use lib.Arith.{mod-mul}
 use lib.Dec.{eqb}
-use lib.ListN.{length, getD, drop, replicate}
-use lib.Seq.{drop-drop}
-use Rattle.octets.specs.Number.{le}
-use Rattle.octets.specs.Padding.{padded, padding}
+use lib.ListN.{length, getD}
+use Rattle.octets.specs.Padding.{padded}
 use Rattle.octets.proofs.Laws.Part.{getD-within}
-use Rattle.rules.specs.Judged.{judgedIdentity, securityMask}
-use Rattle.rules.specs.Refusal.{bytes}
-use Rattle.rules.specs.Security.{ST, keyAt, signatureAt, certAt, providerAt, securityFields, securityLength, securityParts}
+use Rattle.rules.specs.Judged.{judgedIdentity, securityBits}
+use Rattle.rules.specs.Row.{rowBits}
+use Rattle.rules.specs.Security.{ST, keyAt, signatureAt, certAt, providerAt, securityFields, securityLength, securityParts, securityRow}
 use Rattle.rules.specs.Summary.{partOf}
 use Rattle.rules.specs.declared.security.SecurityFields.{SecurityFields}
 use Rattle.rules.specs.declared.security.SecurityParts.{SecurityParts}
 use Rattle.rules.proofs.Laws.Accepted.{SecurityFits, identity-le}
-use Rattle.rules.proofs.Laws.Judged.{identity-le-provider}
-use Rattle.rules.proofs.Laws.Masked.{Alike}
-use Rattle.secrecy.proofs.Alike.{BothOctets, alike-bytes, alike-number, alike-none, bytes-alike, hidden-alike, low-alike, number-alike, take-run, drop-run, within-same}
-use Rattle.secrecy.specs.Demand3.{Octets}
-
--- twelve bits of two bytes are the first byte and four bits of the second
-flags-bytes : (s : List ℕ) → Octets s → le 2 s 0 % 4096 ≡ getD s 0 0 + 256 * (getD s 1 0 % 16)
-unfolding le
-flags-bytes s b =
-    let n : ℕ = le 2 s 0 in
-    let split : n % 4096 ≡ n / 256 % 16 * 256 + n % 256 = mod-mul n {m = 16} {c = 256} (omega arith) (omega arith) in
-    let high : n / 256 ≡ getD s 1 0 = omega (arith, b 0) in
-    let low : n % 256 ≡ getD s 0 0 = omega (arith, b 0) in
-    split ∙ (rw (high, low) (omega arith))
-
--- between the judged identity bytes and the provider info
-hidden : SecurityFields → ℕ
-hidden f = providerAt f - (16 + judgedIdentity f)
-
-hidden-end : (f : SecurityFields) → 16 + judgedIdentity f + hidden f ≡ providerAt f
-unfolding hidden
-hidden-end f = omega (arith, identity-le-provider f)
-
--- the provider info's part of the mask
-provider-mask : (f : SecurityFields)
-    → drop (providerAt f) (securityMask f)
-    ≡ replicate (f .«provider_info_size» .0) 8 ++ replicate (padding 4 (f .«provider_info_size» .0)) 0
-unfolding securityMask hidden
-provider-mask f =
-    ap (λ (n : ℕ). drop n (securityMask f)) (sym (hidden-end f))
-    ∙ sym (drop-drop (hidden f) (16 + judgedIdentity f) (securityMask f))
-    ∙ ap (drop (hidden f))
-    (sym (drop-drop (judgedIdentity f) 16 (securityMask f))
-    ∙ drop-run (judgedIdentity f) 8 _)
-    ∙ drop-run (hidden f) 0 _
-
-module _ {s t : List ℕ} (o : BothOctets s t) (f : SecurityFields) where
-  -- every field is counted
-  fields-same : Alike (securityMask f) s t → securityFields s ≡ securityFields t
-  unfolding securityMask securityFields
-  fields-same a =
-      let number = alike-number o a in
-      let low : getD s 0 0 ≡ getD t 0 0 = alike-bytes o a 0 1 refl 0 (omega arith) in
-      let flags = flags-bytes s (o .left) ∙ ap₂ (λ (x y : ℕ). x + 256 * y) low (a .at 1) ∙ sym (flags-bytes t (o .right)) in
-      λ i. record {
-        flags = flags i;
-        «sender_id_size» = bytes (number 2 2 refl i);
-        «encryption_key_size» = bytes (number 2 4 refl i);
-        «signature_size» = bytes (number 2 6 refl i);
-        «sender_cert_size» = bytes (number 4 8 refl i);
-        «provider_info_size» = bytes (number 4 12 refl i);
-      }
-
-  -- so are the judged identity bytes
-  identity-same : Alike (securityMask f) s t → (i : ℕ) → i < judgedIdentity f → getD s (16 + i) 0 ≡ getD t (16 + i) 0
-  unfolding securityMask
-  identity-same a = alike-bytes o a 16 (judgedIdentity f) (take-run (judgedIdentity f) 8 _)
-
-  -- and the provider info
-  provider-same : Alike (securityMask f) s t
-      → (i : ℕ) → i < f .«provider_info_size» .0 → getD s (providerAt f + i) 0 ≡ getD t (providerAt f + i) 0
-  provider-same a =
-      alike-bytes o a (providerAt f) (f .«provider_info_size» .0)
-      (rw provider-mask (take-run (f .«provider_info_size» .0) 8 _))
-
-  -- and nothing else is
-  same-alike : securityFields s ≡ securityFields t
-      → ((i : ℕ) → i < judgedIdentity f → getD s (16 + i) 0 ≡ getD t (16 + i) 0)
-      → ((i : ℕ) → i < f .«provider_info_size» .0 → getD s (providerAt f + i) 0 ≡ getD t (providerAt f + i) 0)
-      → Alike (securityMask f) s t
-  unfolding securityMask securityFields hidden
-  same-alike e identity provider =
-      let flags = sym (flags-bytes s (o .left)) ∙ ap (λ (x : SecurityFields). x .flags) e ∙ flags-bytes t (o .right) in
-      low-alike o 8 0 (omega (arith, o .left 0, o .right 0))
-      (low-alike o 4 1 (omega (arith, o .left 0, o .right 0))
-      (number-alike o 2 2 (ap (λ (x : SecurityFields). x .«sender_id_size» .0) e)
-      (number-alike o 2 4 (ap (λ (x : SecurityFields). x .«encryption_key_size» .0) e)
-      (number-alike o 2 6 (ap (λ (x : SecurityFields). x .«signature_size» .0) e)
-      (number-alike o 4 8 (ap (λ (x : SecurityFields). x .«sender_cert_size» .0) e)
-      (number-alike o 4 12 (ap (λ (x : SecurityFields). x .«provider_info_size» .0) e)
-      (bytes-alike o (judgedIdentity f) 16 identity
-      (hidden-alike o (hidden f) (16 + judgedIdentity f)
-      (rw hidden-end
-      (bytes-alike o (f .«provider_info_size» .0) (providerAt f) provider
-      (alike-none (padding 4 (f .«provider_info_size» .0)) _ _)))))))))))
+use Rattle.rules.proofs.Laws.Judged.{judgedIdentity-le}
+use Rattle.rules.proofs.Laws.Masked.{Alike, alike-append}
+use Rattle.rules.proofs.Laws.Named.{security-size, securityNamed}
+use Rattle.rules.proofs.Laws.Row.{length-rowBits, named-alike}
+use Rattle.secrecy.proofs.Alike.{BothOctets, Same, alike-next, alike-part, within-same}
 
 -- what of a SecurityHeader is judged, as reading sees it
 pub record SameSecurity (f : SecurityFields) (parts : SecurityParts) (s t : List ℕ) : Type 0 where
@@ -119,35 +36,59 @@ identity-index false n i h = absurd (omega arith)
 -- so rows alike under the mask are those that hold the same fields, head of the identity and provider info
 in-parts : {s t : List ℕ} → BothOctets s t → (f : SecurityFields) → (eqb (ST f) 1 ≡ true → 8 ≤ f .«sender_id_size» .0)
     → securityLength f ≤ length s → securityLength f ≤ length t
-    → Alike (securityMask f) s t ↔ SameSecurity f (securityParts f) s t
-unfolding securityParts securityLength providerAt certAt signatureAt keyAt judgedIdentity padded
+    → Alike (securityBits 0 f) s t ↔ SameSecurity f (securityParts f) s t
+unfolding securityBits securityParts securityLength providerAt certAt signatureAt keyAt judgedIdentity padded
 in-parts {s} {t} o f eight hs ht =
     let n = f .«sender_id_size» .0 in
+    let info = f .«provider_info_size» .0 in
     let hs′ : 16 + n ≤ length s = omega arith in
     let ht′ : 16 + n ≤ length t = omega arith in
-    let provider = within-same s t (providerAt f) (f .«provider_info_size» .0) (omega arith) (omega arith) in (
-      λ a. record {
-        fields = fields-same o f a;
-        identity = λ one i l.
-            let e = eight one in
-            getD-within s 16 n hs′ i (omega arith)
-            ∙ identity-same o f a i (rw one (omega arith))
-            ∙ sym (getD-within t 16 n ht′ i (omega arith));
-        provider = provider .1 (provider-same o f a);
-      },
-      λ e. same-alike o f (e .fields)
-          (λ i l.
+    let provider = within-same s t (providerAt f) info (omega arith) (omega arith) in
+    let row = named-alike securityNamed s t (o .left) (o .right) (rw security-size (omega arith)) (rw security-size (omega arith)) in
+    let none : (at : ℕ) → Same at 0 s t = λ at i l. absurd (omega arith) in
+    let fixed = alike-append (rowBits 0 securityRow) _ s t 16 (length-rowBits 0 securityRow ∙ security-size) in (
+      λ a.
+          let identity = alike-next o 16 (judgedIdentity f) n (judgedIdentity-le f) .0 (fixed .0 a .1) in
+          let key = alike-next o (keyAt f) 0 (f .«encryption_key_size» .0) (omega arith) .0 (identity .1) in
+          let signature = alike-next o (signatureAt f) 0 (f .«signature_size» .0) (omega arith) .0 (key .1) in
+          let cert = alike-next o (certAt f) 0 (f .«sender_cert_size» .0) (omega arith) .0 (signature .1) in
+          record {
+            fields = row .0 (fixed .0 a .0);
+            identity = λ one i l.
+                let e = eight one in
+                getD-within s 16 n hs′ i (omega arith)
+                ∙ identity .0 i (rw one (omega arith))
+                ∙ sym (getD-within t 16 n ht′ i (omega arith));
+            provider = provider .1 (alike-part o (providerAt f) info info (omega arith) .0 (cert .1));
+          },
+      λ e.
+          let identity : Same 16 (judgedIdentity f) s t = λ i l.
           let c = identity-index (eqb (ST f) 1) n i l in
-          sym (getD-within s 16 n hs′ i (c .2)) ∙ e .identity (c .0) i (c .1) ∙ getD-within t 16 n ht′ i (c .2))
-          (provider .0 (e .provider)),
+          sym (getD-within s 16 n hs′ i (c .2)) ∙ e .identity (c .0) i (c .1) ∙ getD-within t 16 n ht′ i (c .2) in
+          fixed .1 (
+            row .1 (e .fields),
+            alike-next o 16 (judgedIdentity f) n (judgedIdentity-le f) .1 (
+              identity,
+              alike-next o (keyAt f) 0 (f .«encryption_key_size» .0) (omega arith) .1 (
+                none (keyAt f),
+                alike-next o (signatureAt f) 0 (f .«signature_size» .0) (omega arith) .1 (
+                  none (signatureAt f),
+                  alike-next o (certAt f) 0 (f .«sender_cert_size» .0) (omega arith) .1 (
+                    none (certAt f),
+                    alike-part o (providerAt f) info info (omega arith) .1 (provider .0 (e .provider)),
+                  ),
+                ),
+              ),
+            ),
+          ),
     )
 
 pub security-alike : {s t : List ℕ} → BothOctets s t → (f : SecurityFields) (parts : SecurityParts)
     → SecurityFits f parts → parts .length .0 ≤ length s → parts .length .0 ≤ length t
-    → Alike (securityMask f) s t ↔ SameSecurity f parts s t
+    → Alike (securityBits 0 f) s t ↔ SameSecurity f parts s t
 unfolding securityParts
 security-alike {s} {t} o f parts fits =
     subst
     (λ (x : SecurityParts).
-    x .length .0 ≤ length s → x .length .0 ≤ length t → Alike (securityMask f) s t ↔ SameSecurity f x s t)
+    x .length .0 ≤ length s → x .length .0 ≤ length t → Alike (securityBits 0 f) s t ↔ SameSecurity f x s t)
     (sym (fits .layout)) (in-parts o f (identity-le (ST f) (f .«sender_id_size» .0) (fits .identity)))

@@ -24,12 +24,12 @@ givenBy q =
           record {
             «security_first» = securityFirst q;
             «security_flags» = securityFlags q;
-            flags = acknowledge q;
+            flags = acknowledge (q .values);
             «message_class» = class q;
             «body_type» = bodyType q;
             «application_tag» = tag q;
             «allocation_body_size» = bytes (allocation q);
-            «privacy_level» = packetPrivacy (privacy q);
+            «privacy_level» = packetPrivacy (privacy (q .values));
             «hash_algorithm» = hash q;
             «encryption_algorithm» = encryptionAlgorithm q;
           };

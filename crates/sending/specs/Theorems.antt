@@ -42,10 +42,10 @@ pub record Carries (q : SendRequest) (s : List ℕ) (r : Section) : Type 0 where
   pub reads : read (securityFirst q) s ≡ Accepted r
   pub length : r .summary .parts .«section_length» ≡ bytes (sectionLength q)
   pub class : r .summary .properties .«message_class» ≡ class q
-  pub acknowledge : r .summary .properties .flags ≡ acknowledge q
+  pub acknowledge : r .summary .properties .flags ≡ acknowledge (q .values)
   pub correlation : partOf s (r .«correlation_id») ≡ correlation q
   pub tag : r .«application_tag» ≡ tag q
-  pub privacy : r .summary .properties .«privacy_level» ≡ packetPrivacy (privacy q)
+  pub privacy : r .summary .properties .«privacy_level» ≡ packetPrivacy (privacy (q .values))
   pub hash : r .summary .properties .«hash_algorithm» ≡ hash q
   pub encryptionAlgorithm : r .summary .properties .«encryption_algorithm» ≡ encryptionAlgorithm q
   pub bodyType : r .summary .properties .«body_type» ≡ bodyType q

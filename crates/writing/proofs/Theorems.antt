@@ -1,8 +1,8 @@
 -- The theorems of the section writer.
 use mathlib.Core.Path.{refl}
 use lib.ListN.{length}
-use Rattle.rules.specs.Judged.{copyOf, judged, propertiesMask, securityMask}
-use Rattle.writing.specs.Theorems.{Writing, carried, hidden, propertiesCarried, securityCarried}
+use Rattle.rules.specs.Judged.{copyOf}
+use Rattle.writing.specs.Theorems.{Writing, hidden}
 use Rattle.writing.proofs.Laws.Again.{Way, accepted-again}
 use Rattle.writing.proofs.Laws.Carried.{properties-carried, security-carried}
 use Rattle.writing.proofs.Laws.Hidden.{hidden-identity, hidden-properties, hidden-security, properties-hidden, security-hidden}
@@ -11,7 +11,7 @@ use Rattle.writing.proofs.Laws.Placed.{section-placed}
 use Rattle.writing.proofs.Laws.ReadBack.{section-back}
 
 -- what was read, as it is
-whole-way : Way (λ g. g) securityCarried propertiesCarried
+whole-way : Way (λ g. g) 8
 whole-way =
     record {
       first = λ g. refl;
@@ -25,7 +25,7 @@ whole-way =
     }
 
 -- what was read, with every private bit zero
-hidden-way : Way hidden securityMask propertiesMask
+hidden-way : Way hidden 0
 unfolding hidden
 hidden-way =
     record {
@@ -40,7 +40,7 @@ hidden-way =
     }
 
 pub writing : Writing
-unfolding carried copyOf judged
+unfolding copyOf
 writing =
     record {
       length = λ g n w e. length-section g n (w .correlation) (section-placed g n .0 e);

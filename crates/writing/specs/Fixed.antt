@@ -1,31 +1,18 @@
 -- The fixed bytes of both headers, from their fields; and what it takes to write them: each number fits its bytes.
 use Prim.Native.Nat.{ℕ, _^_, _<_}
-use mathlib.Core.List.{List, _++_}
-use Rattle.octets.specs.Number.{toLe}
+use mathlib.Core.List.{List}
+use lib.ListN.{take, drop}
+use Rattle.rules.specs.Properties.{FixedProperties, propertiesRow}
+use Rattle.rules.specs.Row.{rowBytes}
 use Rattle.rules.specs.declared.properties.PropertiesFields.{PropertiesFields}
 use Rattle.rules.specs.declared.security.SecurityFields.{SecurityFields}
 
-unfoldable pub securityRow : SecurityFields → List ℕ
-securityRow f =
-    toLe 2 (f .flags)
-    ++ (toLe 2 (f .«sender_id_size» .0)
-    ++ (toLe 2 (f .«encryption_key_size» .0)
-    ++ (toLe 2 (f .«signature_size» .0) ++ (toLe 4 (f .«sender_cert_size» .0) ++ toLe 4 (f .«provider_info_size» .0)))))
+-- the first six fields of a MessagePropertiesHeader, 32 bytes, and the other six, 24
+unfoldable pub propertiesHead : FixedProperties → List ℕ
+propertiesHead x = rowBytes (take 6 propertiesRow) x
 
--- the first 32 bytes, with the two fields that no step looks at
-unfoldable pub propertiesHead : PropertiesFields → List ℕ → ℕ → List ℕ
-propertiesHead f correlationId applicationTag =
-    toLe 1 (f .flags)
-    ++ (toLe 1 (f .«label_length» .0)
-    ++ (toLe 2 (f .«message_class») ++ (correlationId ++ (toLe 4 (f .«body_type») ++ toLe 4 applicationTag))))
-
--- the other 24
-unfoldable pub propertiesTail : PropertiesFields → List ℕ
-propertiesTail f =
-    toLe 4 (f .«message_size» .0)
-    ++ (toLe 4 (f .«allocation_body_size» .0)
-    ++ (toLe 4 (f .«privacy_level»)
-    ++ (toLe 4 (f .«hash_algorithm») ++ (toLe 4 (f .«encryption_algorithm») ++ toLe 4 (f .«extension_size» .0)))))
+unfoldable pub propertiesTail : FixedProperties → List ℕ
+propertiesTail x = rowBytes (drop 6 propertiesRow) x
 
 pub record SecuritySized (f : SecurityFields) : Type 0 where
   pub flags : f .flags < 2 ^ 16

@@ -2,6 +2,8 @@
 use Prim.Native.Nat.{ℕ, _/_, _%_}
 use mathlib.Core.List.{List}
 use lib.ListN.{length}
+use Rattle.octets.specs.Number.{toLe}
+use Rattle.rules.specs.Properties.{FixedProperties}
 use Rattle.rules.specs.Refusal.{bytes}
 use Rattle.rules.specs.declared.properties.PropertiesFields.{PropertiesFields}
 use Rattle.rules.specs.declared.security.SecurityFields.{SecurityFields}
@@ -61,3 +63,7 @@ propertiesGiven g =
       «encryption_algorithm» = g .values .«encryption_algorithm»;
       «extension_size» = bytes (length (g .extension));
     }
+
+-- with what no step looks at: all that the fixed bytes hold
+abbrev pub fixed : PropertiesFields → List ℕ → ℕ → FixedProperties
+fixed f correlationId tag = record { fields = f; correlationId = correlationId; applicationTag = toLe 4 tag }

@@ -1,20 +1,15 @@
 -- What the section writer and the reader say of each other.
-use Prim.Native.Nat.{ℕ, _+_, _-_, _<_}
+use Prim.Native.Nat.{ℕ, _-_, _<_}
 use mathlib.Core.Path.{_≡_}
-use mathlib.Core.Bool.{Bool, true, cond}
-use mathlib.Core.List.{List, [], _++_}
+use mathlib.Core.Bool.{Bool, true}
+use mathlib.Core.List.{List, _++_}
 use lib.ListN.{length, getD, take, replicate}
-use Rattle.octets.specs.Padding.{padding}
-use Rattle.rules.specs.Judged.{copyOf, judgedIdentity, masked}
-use Rattle.rules.specs.Properties.{labelBytes}
+use Rattle.rules.specs.Judged.{carried, copyOf, judgedIdentity, masked}
 use Rattle.rules.specs.Reading.{read}
 use Rattle.rules.specs.Refusal.{bytes}
 use Rattle.rules.specs.Summary.{partOf}
-use Rattle.rules.specs.declared.properties.PropertiesFields.{PropertiesFields}
 use Rattle.rules.specs.declared.section.Reading.the-variants.{Accepted}
 use Rattle.rules.specs.declared.section.Section.{Section}
-use Rattle.rules.specs.declared.section.Summary.{Summary}
-use Rattle.rules.specs.declared.security.SecurityFields.{SecurityFields}
 use Rattle.writing.specs.Given.{Given, propertiesGiven, securityGiven}
 use Rattle.writing.specs.Writing.{placeSection, sectionBytes}
 use Rattle.writing.specs.declared.values.Placed.the-variants.{At}
@@ -76,28 +71,6 @@ givenOf r s =
       extension = partOf s (m .parts .extension);
       body = partOf s (m .parts .body);
     }
-
--- of each byte how many of its lowest bits are carried: all but X bits and padding
-unfoldable pub carriedPart : ℕ → List ℕ
-carriedPart n = replicate n 8 ++ replicate (padding 4 n) 0
-
-unfoldable pub securityCarried : SecurityFields → List ℕ
-securityCarried f =
-    replicate 1 8
-    ++ (replicate 1 4  -- X12 to X15
-    ++ (replicate 14 8
-    ++ (carriedPart (f .«sender_id_size» .0)
-    ++ (carriedPart (f .«encryption_key_size» .0)
-    ++ (carriedPart (f .«signature_size» .0) ++ (carriedPart (f .«sender_cert_size» .0) ++ carriedPart (f .«provider_info_size» .0)))))))
-
-unfoldable pub propertiesCarried : PropertiesFields → List ℕ
-propertiesCarried f =
-    let size = 56 + labelBytes f + f .«extension_size» .0 + f .«message_size» .0 in
-    replicate 1 4  -- the four X bits
-    ++ (replicate (size - 1) 8 ++ replicate (padding 4 size) 0)
-
-unfoldable pub carried : Summary → List ℕ
-carried m = cond (m .«security_first») (securityCarried (m .security .fields)) [] ++ propertiesCarried (m .properties)
 
 -- the values and parts with every private bit zero
 unfoldable pub hidden : Given → Given

@@ -4,11 +4,11 @@ use mathlib.Core.Bool.{Bool, not, _||_, cond}
 use mathlib.Core.List.{List, [], _++_}
 use lib.ListN.{length, drop, replicate}
 use lib.Dec.{eqb, ltb}
-use Rattle.octets.specs.Number.{toLe}
 use Rattle.octets.specs.Padding.{padding}
-use Rattle.rules.specs.Properties.{labelContents, propertiesSteps}
+use Rattle.rules.specs.Properties.{labelContents, propertiesRow, propertiesSteps}
 use Rattle.rules.specs.Refusal.{bytes, refusal}
-use Rattle.rules.specs.Security.{securityContents, securitySteps}
+use Rattle.rules.specs.Row.{rowBytes}
+use Rattle.rules.specs.Security.{securityContents, securityRow, securitySteps}
 use Rattle.rules.specs.declared.properties.PropertiesLayout.{PropertiesLayout}
 use Rattle.rules.specs.declared.properties.PropertiesLayout.the-variants.{Fits as Properties·Fits, Refused as Properties·Refused}
 use Rattle.rules.specs.declared.refusal.Checked.{Checked}
@@ -17,7 +17,7 @@ use Rattle.rules.specs.declared.section.Output.{Output}
 use Rattle.rules.specs.declared.section.Output.the-variants.{Written, Refused as Output·Refused}
 use Rattle.rules.specs.declared.security.SecurityLayout.{SecurityLayout}
 use Rattle.rules.specs.declared.security.SecurityLayout.the-variants.{Fits, Refused as Layout·Refused}
-use Rattle.writing.specs.Given.{Given, propertiesGiven, securityGiven}
+use Rattle.writing.specs.Given.{Given, fixed, propertiesGiven, securityGiven}
 use Rattle.writing.specs.declared.values.Placed.{Placed}
 use Rattle.writing.specs.declared.values.Placed.the-variants.{At, Refused}
 
@@ -64,15 +64,9 @@ placeSection g = placeEnd g (placeProperties g)
 unfoldable pub paddedPart : List ℕ → List ℕ
 paddedPart xs = xs ++ replicate (padding 4 (length xs)) 0
 
--- SecurityHeader: Flags at 0 (2), SenderIdSize 2 (2), EncryptionKeySize 4 (2), SignatureSize 6 (2), SenderCertSize 8 (4), ProviderInfoSize 12 (4), then the parts
+-- the fixed bytes of a SecurityHeader, then the parts
 unfoldable pub securityFixed : Given → List ℕ
-securityFixed g =
-    toLe 2 (g .values .«security_flags» % 4096)
-    ++ (toLe 2 (length (g .senderId))
-    ++ (toLe 2 (length (g .encryptionKey))
-    ++ (toLe 2 (length (g .signature))
-    ++ (toLe 4 (length (g .senderCert))
-    ++ toLe 4 (length (g .providerInfo))))))
+securityFixed g = rowBytes securityRow (securityGiven g)
 
 unfoldable pub securityBytes : Given → List ℕ
 securityBytes g =
@@ -81,19 +75,9 @@ securityBytes g =
     ++ (paddedPart (g .encryptionKey)
     ++ (paddedPart (g .signature) ++ (paddedPart (g .senderCert) ++ paddedPart (g .providerInfo)))))
 
--- MessagePropertiesHeader: Flags 0 (1), LabelLength 1 (1), MessageClass 2 (2), CorrelationID 4 (20), BodyType 24, ApplicationTag 28, MessageSize 32, AllocationBodySize 36, PrivacyLevel 40, HashAlgorithm 44, EncryptionAlgorithm 48, ExtensionSize 52 (4 each), then the parts
+-- the fixed bytes of a MessagePropertiesHeader, then the parts
 unfoldable pub propertiesFixed : Given → List ℕ
-propertiesFixed g =
-    toLe 1 (g .values .flags % 16)
-    ++ (toLe 1 (propertiesGiven g .«label_length» .0)
-    ++ (toLe 2 (g .values .«message_class»)
-    ++ (g .correlationId
-    ++ (toLe 4 (g .values .«body_type»)
-    ++ (toLe 4 (g .values .«application_tag»)
-    ++ (toLe 4 (length (g .body))
-    ++ (toLe 4 (g .values .«allocation_body_size» .0)
-    ++ (toLe 4 (g .values .«privacy_level»)
-    ++ (toLe 4 (g .values .«hash_algorithm») ++ (toLe 4 (g .values .«encryption_algorithm») ++ toLe 4 (length (g .extension))))))))))))
+propertiesFixed g = rowBytes propertiesRow (fixed (propertiesGiven g) (g .correlationId) (g .values .«application_tag»))
 
 unfoldable pub propertiesBytes : Given → List ℕ
 propertiesBytes g = paddedPart (propertiesFixed g ++ (g .label ++ (g .extension ++ g .body)))

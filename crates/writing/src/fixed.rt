@@ -6,7 +6,11 @@ ghost use mathlib.Core.Path.{_≡_};
 ghost use Prim.Native.Nat.{_+_, _≤_};
 ghost use lib.ListN.{length};
 ghost use Rattle.octets.specs.Number.{toLe};
-ghost use Rattle.writing.specs.Fixed.{propertiesHead, propertiesTail, PropertiesSized, securityRow, SecuritySized};
+ghost use mathlib.Core.List.{[]};
+ghost use Rattle.rules.specs.Row.{rowBytes};
+ghost use Rattle.rules.specs.Security.{securityRow};
+ghost use Rattle.writing.specs.Fixed.{propertiesHead, propertiesTail, PropertiesSized, SecuritySized};
+ghost use Rattle.writing.specs.Given.{fixed};
 ghost use Rattle.octets.specs.Over.{over, overAt};
 
 pub(crate) fn write_u8(out: &mut [u8], at: usize, n: u8)
@@ -35,7 +39,7 @@ pub(crate) fn write_u32(out: &mut [u8], at: usize, n: u32)
 pub(crate) fn write_security_fixed(f: SecurityFields, out: &mut [u8])
     requires { ⌜ SecuritySized f ⌝ }
     requires { ⌜ 16 ≤ length (now out) ⌝ }
-    ensures { λ _. ⌜ now (out .exit) ≡ over (securityRow f) (now (out .entry)) ⌝ }
+    ensures { λ _. ⌜ now (out .exit) ≡ over (rowBytes securityRow f) (now (out .entry)) ⌝ }
 {
     write_u16(out, 0, f.flags as u16);
     write_u16(out, 2, f.sender_id_size.0 as u16);
@@ -54,7 +58,7 @@ pub(crate) fn write_properties_head(
 )
     requires { ⌜ PropertiesSized f ⌝ }
     requires { ⌜ 32 ≤ length (now out) ⌝ }
-    ensures { λ _. ⌜ now (out .exit) ≡ over (propertiesHead f «correlation_id» «application_tag») (now (out .entry)) ⌝ }
+    ensures { λ _. ⌜ now (out .exit) ≡ over (propertiesHead (fixed f «correlation_id» «application_tag»)) (now (out .entry)) ⌝ }
 {
     write_u8(out, 0, f.flags);
     write_u8(out, 1, f.label_length.0 as u8);
@@ -68,7 +72,7 @@ pub(crate) fn write_properties_head(
 pub(crate) fn write_properties_tail(f: PropertiesFields, out: &mut [u8])
     requires { ⌜ PropertiesSized f ⌝ }
     requires { ⌜ 24 ≤ length (now out) ⌝ }
-    ensures { λ _. ⌜ now (out .exit) ≡ over (propertiesTail f) (now (out .entry)) ⌝ }
+    ensures { λ _. ⌜ now (out .exit) ≡ over (propertiesTail (fixed f [] 0)) (now (out .entry)) ⌝ }
 {
     write_u32(out, 0, f.message_size.0 as u32);
     write_u32(out, 4, f.allocation_body_size.0 as u32);

@@ -1,12 +1,12 @@
 -- Bytes written over an output: byte by byte, and one part after the other.
 use Prim.Native.Nat.{ℕ, suc, _+_, _-_, _≤_, _<_}
-use mathlib.Core.Path.{_≡_, refl, sym, ap, _∙_}
+use mathlib.Core.Path.{_≡_, refl, sym, ap, subst, _∙_}
 use mathlib.Core.List.{List, [], _∷_, _++_, append-assoc, append-nil}
 use native.Mathlib.Nat.{add-assoc, zero-add}
 use native.Mathlib.Numerals.{add-one}
 use native.Mathlib.Omega.{arith}
 use lib.ListN.{length, getD, take, drop, set, replicate, length-append, length-drop, length-replicate, replicate-append-replicate, take-append-drop}
-use lib.Seq.{append-snoc, length-take-le, take-all, take-at, take-suc, drop-at, drop-cons, drop-drop, drop-length, set-at, set-split}
+use lib.Seq.{append-snoc, length-take-le, take-add, take-all, take-at, take-suc, drop-at, drop-cons, drop-drop, drop-length, set-at, set-split}
 use Rattle.octets.proofs.Laws.Part.{rest-drop}
 use Rattle.octets.specs.Over.{over, overAt, copied}
 
@@ -82,6 +82,10 @@ over-whole p out e = rw (e, drop-length, append-nil)
 pub copied-fits : (s out : List ℕ) → length s ≤ length out → copied s out ≡ over s out
 unfolding copied
 copied-fits s out h = rw (take-all (length out) s h)
+
+-- and where the output holds no more, it is what the output then holds
+pub copied-whole : (s out : List ℕ) → length s ≡ length out → copied s out ≡ s
+copied-whole s out e = copied-fits s out (omega arith) ∙ over-whole s out e
 
 -- a lent part of n bytes from an offset: what it then holds is written from there on
 module _ (at n : ℕ) (out : List ℕ) (h : at + n ≤ length out) where
@@ -172,3 +176,30 @@ written-zeros {now = now} at n later w a h e =
 pub written-take : {p out : List ℕ} {end : ℕ} {now : List ℕ} → Written p out end now → take end now ≡ p
 unfolding over
 written-take {p} {out} {end} w = ap (take end) (w .bytes) ∙ take-at p (drop (length p) out) end (w .ends)
+
+-- the next k bytes of a part, through a lent part of as many
+pub written-block : {out now : List ℕ} (s : List ℕ) (i n k : ℕ) (later : List ℕ) → Written (take i s) out i now
+    → i ≤ n → n ≤ length s → n ≤ length out → k ≡ n - i → later ≡ take k (drop i s)
+    → Written (take n s) out n (take i now ++ (later ++ drop k (drop i now)))
+unfolding over overAt
+written-block {out} {now} s i n k later w a b o e l =
+    let q = take k (drop i s) in
+    let lq : length q ≡ k = length-take-le k (drop i s) (rw length-drop (omega arith)) in
+    let put : take i now ++ (later ++ drop k (drop i now)) ≡ overAt i q now = rw (l, lq) in
+    let end : i + k ≡ n = omega arith in
+    let whole : take i s ++ q ≡ take n s = sym (take-add i k s) ∙ ap (λ (m : ℕ). take m s) end in
+    let r = written-next i k q w refl lq put in
+    record {
+      ends = length-take-le n s b;
+      bytes = r .bytes ∙ ap (λ (p : List ℕ). over p out) whole;
+    }
+
+-- and the last, where they are copied
+pub written-last : {out now : List ℕ} (s : List ℕ) (i n : ℕ) (later : List ℕ) → Written (take i s) out i now
+    → i ≤ n → n ≤ length s → n ≤ length out → length now ≡ length out
+    → later ≡ copied (take (n - i) (drop i s)) (take (n - i) (drop i now))
+    → Written (take n s) out n (take i now ++ (later ++ drop (n - i) (drop i now)))
+written-last {out} {now} s i n later w a b o m l =
+    let p : length (take (n - i) (drop i s)) ≡ n - i = length-take-le (n - i) (drop i s) (rw length-drop (omega arith)) in
+    let q : length (take (n - i) (drop i now)) ≡ n - i = length-take-le (n - i) (drop i now) (rw length-drop (omega arith)) in
+    written-block s i n (n - i) later w a b o refl (l ∙ copied-whole (take (n - i) (drop i s)) (take (n - i) (drop i now)) (p ∙ sym q))

@@ -1,14 +1,14 @@
 -- Text of 16-bit units: the rule by counting.
-use Prim.Native.Nat.{ℕ, zero, suc, _+_, _*_, _-_, _/_, _%_, _<_}
+use Prim.Native.Nat.{ℕ, zero, suc, _+_, _*_, _-_, _/_, _%_, _≤_, _<_}
 use mathlib.Core.Path.{_≡_, refl, sym, ap, _∙_}
 use mathlib.Core.List.{List, [], _∷_, _++_}
-use mathlib.Core.Bool.{false, _&&_, cond}
-use native.Mathlib.Nat.{zero-add, add-zero, mul-suc}
+use mathlib.Core.Bool.{Bool, true, false, _&&_, cond}
+use native.Mathlib.Nat.{zero-add, add-zero, suc-add, mul-suc}
 use native.Mathlib.Numerals.{add-two, sub-one}
 use native.Mathlib.Omega.{arith}
 use borrow.Author.Tests.{eq-eqb, ne-eqb}
-use lib.ListN.{length, getD, take}
-use lib.Seq.{take-suc}
+use lib.ListN.{length, getD, take, drop}
+use lib.Seq.{take-nil, take-suc, drop-nil}
 use lib.Dec.{eqb, eqb·suc-zero}
 use Rattle.octets.specs.Number.{le}
 use Rattle.octets.specs.Text.{units, lastOnly, isText, zeros}
@@ -37,6 +37,43 @@ pub zeros-take-suc : (us : List ℕ) (i : ℕ) → i < length us
     → zeros (take (suc i) us) ≡ zeros (take i us) + cond (eqb (getD us i 0) 0) 1 0
 unfolding zeros
 zeros-take-suc us i h = rw (take-suc us i 0, zeros-append) (simp add-zero)
+
+-- the first units, and those behind them
+pub zeros-take-add : (us : List ℕ) (i j : ℕ) → zeros (take (i + j) us) ≡ zeros (take i us) + zeros (take j (drop i us))
+unfolding zeros
+zeros-take-add us zero j = rw (zero-add j) (simp zero-add)
+zeros-take-add [] (suc i) j = rw (take-nil (suc i + j), take-nil j)
+zeros-take-add (u ∷ us) (suc i) j =
+    let r : zeros (take (i + j) us) ≡ zeros (take i us) + zeros (take j (drop i us)) = zeros-take-add us i j in
+    rw (suc-add i j) (omega arith)
+
+-- the units behind the first
+pub units-drop : (s : List ℕ) (j : ℕ) → units (drop (2 * j) s) ≡ drop j (units s)
+unfolding units
+units-drop s zero = refl
+units-drop [] (suc j) = rw (drop-nil (2 * suc j))
+units-drop (a ∷ []) (suc j) = simp mul-suc (simp add-two refl)
+units-drop (a ∷ b ∷ s) (suc j) = simp mul-suc (simp add-two (units-drop s j))
+
+-- none is zero where none is of the first k, and none of the last j, which begin before the k-th ends
+pub zeros-overlap : (us : List ℕ) (i j k : ℕ) → i ≤ k → k ≤ i + j
+    → (eqb (zeros (take k us)) 0 && eqb (zeros (take j (drop i us))) 0) ≡ eqb (zeros (take (i + j) us)) 0
+zeros-overlap us i j k l h =
+    let last = take j (drop i us) in
+    let all : zeros (take (i + j) us) ≡ zeros (take i us) + zeros last = zeros-take-add us i j in
+    let m = k - i in
+    let e : i + m ≡ k = omega arith in
+    let first : zeros (take k us) ≡ zeros (take i us) + zeros (take m (drop i us)) =
+    ap (λ (n : ℕ). zeros (take n us)) (sym e) ∙ zeros-take-add us i m in
+    let f : m + (j - m) ≡ j = omega arith in
+    let more : zeros last ≡ zeros (take m (drop i us)) + zeros (take (j - m) (drop m (drop i us))) =
+    ap (λ (n : ℕ). zeros (take n (drop i us))) (sym f) ∙ zeros-take-add (drop i us) m (j - m) in
+    both (zeros (take k us)) (zeros last) (zeros (take (i + j) us)) (omega arith) (omega arith)
+  where
+    both : (a b n : ℕ) → n ≤ a + b → (a ≤ n) × (b ≤ n) → (eqb a 0 && eqb b 0) ≡ eqb n 0
+    both zero zero n h l = sym (eq-eqb n 0 (omega arith))
+    both zero (suc b) n h l = rw eqb·suc-zero (sym (ne-eqb n 0 (λ e. omega (arith, l .1))))
+    both (suc a) b n h l = rw eqb·suc-zero (sym (ne-eqb n 0 (λ e. omega (arith, l .0))))
 
 -- a zero unit is counted
 zeros-pos : (us : List ℕ) (i : ℕ) → i < length us → getD us i 0 ≡ 0 → 0 < zeros us

@@ -9,7 +9,7 @@ use lib.Dec.{eqb}
 use Rattle.rules.specs.Listed.{classes, listed}
 use Rattle.rules.specs.Properties.{labelContents, propertiesLength, propertiesParts, propertiesSteps}
 use Rattle.rules.specs.Refusal.{limit}
-use Rattle.rules.specs.Security.{AS, AU, DE, DP, ST, allEmpty, identitySize, providerSize, securityContents, securityLength, securityParts, securitySteps}
+use Rattle.rules.specs.Security.{AS, AU, DE, DP, ST, allEmpty, identitySize, providerSize, securityContents, securityLength, securityParts, securitySteps, sizeSteps}
 use Rattle.rules.specs.declared.properties.PropertiesFields.{PropertiesFields}
 use Rattle.rules.specs.declared.properties.PropertiesLayout.the-variants.{Fits as Properties·Fits}
 use Rattle.rules.specs.declared.refusal.Checked.the-variants.{Passed}
@@ -36,7 +36,7 @@ record SecurityAsked (f : SecurityFields) : Type 0 where
   small : securityLength f ≤ limit
 
 security-fit : (f : SecurityFields) (at : ℕ) → SecurityAsked f → securitySteps f at ≡ Fits (securityParts f)
-unfolding securitySteps
+unfolding securitySteps sizeSteps
 security-fit f at a =
     rw (
       le-ltb 2 (ST f) (a .ST),

@@ -16,7 +16,7 @@ use Rattle.rules.proofs.Laws.Listed.{listed-out}
 use Rattle.requests.specs.Defaults.{acknowledge, allocation, auditing, body, class, count, deliveryGiven, kind, priority, privacy, signature, signatureCount, trace}
 use Rattle.requests.specs.Request.{SendRequest, isGiven}
 use Rattle.requests.specs.Section.{packetPrivacy, sectionLength, securityFieldsOf, signed}
-use Rattle.requests.specs.Steps.{algorithmMissing, allocationFails, directPrivacy, hashMissing, identityFails, outOfRange, providerFails, requestSteps, sectionSteps, senderSteps, splitFails, tooLarge}
+use Rattle.requests.specs.Steps.{algorithmMissing, allocationFails, directPrivacy, hashMissing, identityFails, outOfRange, privacySteps, providerFails, requestSteps, sectionSteps, senderSteps, splitFails, tooLarge}
 use Rattle.requests.specs.declared.request.Number.{Number}
 use Rattle.requests.specs.declared.request.Number.the-variants.{Absent, Given}
 
@@ -25,12 +25,12 @@ refused≢ : {r : Refusal} → ¬ (Refused r ≡ Passed)
 refused≢ e = let z : _≡_ {A = ℕ} 0 1 = cc in omega arith
 
 pub record RequestPassed (q : SendRequest) : Type 0 where
-  pub ranges : outOfRange q ≡ false
+  pub ranges : outOfRange (q .values) ≡ false
   pub class : listed classes (class q) ≡ true
-  pub privacy : privacy q ≤ 2
-  pub direct : directPrivacy q ≡ false
-  pub algorithm : algorithmMissing q ≡ false
-  pub hash : hashMissing q ≡ false
+  pub privacy : privacy (q .values) ≤ 2
+  pub direct : directPrivacy (q .values) ≡ false
+  pub algorithm : algorithmMissing (q .values) ≡ false
+  pub hash : hashMissing (q .values) (q .signature) ≡ false
   pub identity : identityFails q ≡ false
   pub provider : providerFails q ≡ false
   pub split : splitFails q ≡ false
@@ -40,14 +40,14 @@ pub record RequestPassed (q : SendRequest) : Type 0 where
 
 -- a legal request has passed each step
 pub request-passed : (q : SendRequest) → requestSteps q ≡ Passed → RequestPassed q
-unfolding requestSteps senderSteps sectionSteps
+unfolding requestSteps privacySteps senderSteps sectionSteps
 request-passed q e =
-    let ranges = passed (outOfRange q) refused≢ e in
+    let ranges = passed (outOfRange (q .values)) refused≢ e in
     let listing = passed (not (listed classes (class q))) refused≢ (ranges .1) in
-    let level = passed (ltb 2 (privacy q)) refused≢ (listing .1) in
-    let direct = passed (directPrivacy q) refused≢ (level .1) in
-    let algorithm = passed (algorithmMissing q) refused≢ (direct .1) in
-    let hash = passed (hashMissing q) refused≢ (algorithm .1) in
+    let level = passed (ltb 2 (privacy (q .values))) refused≢ (listing .1) in
+    let direct = passed (directPrivacy (q .values)) refused≢ (level .1) in
+    let algorithm = passed (algorithmMissing (q .values)) refused≢ (direct .1) in
+    let hash = passed (hashMissing (q .values) (q .signature)) refused≢ (algorithm .1) in
     let identity = passed (identityFails q) refused≢ (hash .1) in
     let provider = passed (providerFails q) refused≢ (identity .1) in
     let split = passed (splitFails q) refused≢ (provider .1) in
@@ -57,7 +57,7 @@ request-passed q e =
     record {
       ranges = ranges .0;
       class = not-false (listed classes (class q)) (listing .0);
-      privacy = ltb-false 2 (privacy q) (level .0);
+      privacy = ltb-false 2 (privacy (q .values)) (level .0);
       direct = direct .0;
       algorithm = algorithm .0;
       hash = hash .0;
@@ -70,12 +70,12 @@ request-passed q e =
     }
 
 -- 1
-pub acknowledge-small : (q : SendRequest) → RequestPassed q → acknowledge q ≤ 15
+pub acknowledge-small : (q : SendRequest) → RequestPassed q → acknowledge (q .values) ≤ 15
 unfolding outOfRange
 acknowledge-small q a =
-    let first = ltb 7 (priority q) || ltb 1 (trace q) || ltb 1 (deliveryGiven q) in
-    let four = neither (first || ltb 15 (acknowledge q)) (ltb 3 (auditing q)) (a .ranges) .0 in
-    ltb-false 15 (acknowledge q) (neither first (ltb 15 (acknowledge q)) four .1)
+    let first = ltb 7 (priority (q .values)) || ltb 1 (trace (q .values)) || ltb 1 (deliveryGiven (q .values)) in
+    let four = neither (first || ltb 15 (acknowledge (q .values))) (ltb 3 (auditing (q .values))) (a .ranges) .0 in
+    ltb-false 15 (acknowledge (q .values)) (neither first (ltb 15 (acknowledge (q .values))) four .1)
 
 -- every listed class fits two bytes
 pub class-small : (c : ℕ) → listed classes c ≡ true → c < 65536

@@ -12,7 +12,7 @@ use Rattle.rules.specs.Listed.{listed, classes}
 use Rattle.rules.specs.Properties.{propertiesFields, propertiesLength, propertiesParts, propertiesSteps, labelContents}
 use Rattle.rules.specs.Reading.{readSecurity, securityAfterSteps, securityAfterContents, securityHeader, readProperties, propertiesAfterSteps, propertiesAfterContents, afterSecurity, securityAt, summarize}
 use Rattle.rules.specs.Refusal.{limit}
-use Rattle.rules.specs.Security.{ST, securityFields, securityLength, securityParts, securitySteps, securityContents, identitySize, providerSize, allEmpty, AU, AS, DE, DP}
+use Rattle.rules.specs.Security.{ST, securityFields, securityLength, securityParts, securitySteps, sizeSteps, securityContents, identitySize, providerSize, allEmpty, AU, AS, DE, DP}
 use Rattle.rules.specs.Summary.{partOf, noSecurity, summaryOf, labelOf, propertiesAt}
 use Rattle.rules.specs.declared.refusal.Refusal.{Refusal}
 use Rattle.rules.specs.declared.refusal.Checked.{Checked}
@@ -65,7 +65,7 @@ pub record SecurityFits (f : SecurityFields) (parts : SecurityParts) : Type 0 wh
 
 pub security-fits : (f : SecurityFields) (at : ℕ) (parts : SecurityParts)
     → securitySteps f at ≡ Security·Fits parts → SecurityFits f parts
-unfolding securitySteps securityParts
+unfolding securitySteps sizeSteps securityParts
 security-fits f at parts e =
     let s3 = passed (ltb 2 (ST f)) layout≢ e .1 in
     let s4 = passed (not (eqb (AU f) 0) || not (eqb (AS f) 0)) layout≢ s3 .1 in

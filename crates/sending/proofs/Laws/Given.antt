@@ -33,7 +33,7 @@ securityGiven-by q a = rw (mod-eq-of-lt (securityFlags-bits q (identity-fits q a
 pub propertiesGiven-by : (q : SendRequest) → RequestPassed q → propertiesGiven (givenBy q) ≡ propertiesFieldsOf q
 unfolding propertiesGiven givenBy propertiesFieldsOf
 propertiesGiven-by q a =
-    let small : acknowledge q < 16 = omega (arith, acknowledge-small q a) in
+    let small : acknowledge (q .values) < 16 = omega (arith, acknowledge-small q a) in
     rw (mod-eq-of-lt small)
 
 -- the MessagePropertiesHeader begins where the request has it
@@ -55,7 +55,7 @@ wellFormed-by q t a =
       class = class-small (class q) (a .class);
       «body_type» = t .bodyType;
       tag = t .tag;
-      privacy = omega (arith, packetPrivacy-small (privacy q) (a .privacy));
+      privacy = omega (arith, packetPrivacy-small (privacy (q .values)) (a .privacy));
       hash = t .hash;
       encryption = t .encryptionAlgorithm;
     }

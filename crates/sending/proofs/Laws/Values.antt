@@ -22,7 +22,7 @@ sender-known q p e = ap (λ (x : Properties). x .sender) e
 pub flags-fit : (q : SendRequest) (p : Properties) → Legal q → p ≡ propertiesOf q → p .acknowledge < 256
 unfolding propertiesOf
 flags-fit q p legal e =
-    let same : p .acknowledge ≡ acknowledge q = ap (λ (x : Properties). x .acknowledge) e in
+    let same : p .acknowledge ≡ acknowledge (q .values) = ap (λ (x : Properties). x .acknowledge) e in
     omega (arith, acknowledge-small q (request-passed q legal))
 
 pub class-fits : (q : SendRequest) (p : Properties) → Legal q → p ≡ propertiesOf q → p .«message_class» < 65536

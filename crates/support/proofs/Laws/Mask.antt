@@ -1,19 +1,60 @@
 -- The masks of the two headers, as the runs that the copy puts one after the other.
 use Prim.Native.Nat.{ℕ, _+_, _-_}
-use mathlib.Core.Path.{_≡_, ap}
+use mathlib.Core.Path.{_≡_, refl, sym, ap, _∙_}
 use mathlib.Core.List.{List, _++_, append-assoc}
+use native.Mathlib.Nat.{add-assoc}
 use native.Mathlib.Omega.{arith}
 use lib.ListN.{replicate, replicate-append-replicate}
 use Rattle.octets.specs.Padding.{padded, padding}
-use Rattle.rules.specs.Judged.{judgedIdentity, propertiesMask, securityMask}
-use Rattle.rules.specs.Properties.{labelBytes, propertiesLength}
-use Rattle.rules.specs.Security.{providerAt, securityLength}
+use Rattle.rules.specs.Judged.{judgedIdentity, partBits, propertiesBits, propertiesMask, securityBits, securityMask}
+use Rattle.rules.specs.Properties.{labelBytes, propertiesLength, propertiesRow}
+use Rattle.rules.specs.Row.{fieldBits, lowest, rowBits}
+use Rattle.rules.specs.Security.{certAt, keyAt, providerAt, securityLength, securityRow, signatureAt}
 use Rattle.rules.specs.declared.properties.PropertiesFields.{PropertiesFields}
 use Rattle.rules.specs.declared.security.SecurityFields.{SecurityFields}
+use Rattle.rules.proofs.Laws.Judged.{judgedIdentity-le, part-judged, part-private}
+
+-- the rows' runs
+security-fixed : rowBits 0 securityRow ≡ replicate 1 8 ++ (replicate 1 4 ++ replicate 14 8)
+unfolding rowBits securityRow fieldBits lowest
+security-fixed = refl
+
+properties-fixed : rowBits 0 propertiesRow
+    ≡ replicate 1 4 ++ (replicate 3 8 ++ (replicate 20 0 ++ (replicate 4 8 ++ (replicate 4 0 ++ replicate 24 8))))
+unfolding rowBits propertiesRow fieldBits lowest
+properties-fixed = refl
 
 -- what follows the fixed bytes, as the definition nests it
 regroup : (a b c d : List ℕ) → a ++ b ++ c ++ d ≡ a ++ (b ++ (c ++ d))
 regroup a b c d = simp append-assoc
+
+-- a run after one of the same width
+runs-append : (a b k : ℕ) (r : List ℕ) → replicate a k ++ (replicate b k ++ r) ≡ replicate (a + b) k ++ r
+runs-append a b k r =
+    sym (append-assoc (replicate a k) (replicate b k) r) ∙ ap (λ (z : List ℕ). z ++ r) (replicate-append-replicate a b k)
+
+part-both : (j n : ℕ) → partBits 0 j n ≡ replicate j 8 ++ (replicate (n - j) 0 ++ replicate (padding 4 n) 0)
+unfolding partBits
+part-both j n = append-assoc (replicate j 8) (replicate (n - j) 0) (replicate (padding 4 n) 0)
+
+-- a SecurityHeader's parts: between the judged identity bytes and the provider info there is nothing judged
+security-parts : (f : SecurityFields)
+    → securityMask f
+    ≡ rowBits 0 securityRow
+    ++ (replicate (judgedIdentity f) 8
+    ++ (replicate (providerAt f - (16 + judgedIdentity f)) 0
+    ++ (replicate (f .«provider_info_size» .0) 8 ++ replicate (padding 4 (f .«provider_info_size» .0)) 0)))
+unfolding securityBits providerAt certAt signatureAt keyAt padded
+security-parts f =
+    let j = judgedIdentity f in
+    let n = f .«sender_id_size» .0 in
+    let k = f .«encryption_key_size» .0 in
+    let u = f .«signature_size» .0 in
+    let c = f .«sender_cert_size» .0 in
+    let zeros : n - j + (padding 4 n + (k + (padding 4 k + (u + (padding 4 u + (c + padding 4 c)))))) ≡ providerAt f - (16 + j) =
+    omega (arith, judgedIdentity-le f) in
+    ap (λ (r : List ℕ). rowBits 0 securityRow ++ r)
+    (simp (part-judged, part-private, part-both j n, append-assoc, runs-append, zeros))
 
 -- the identity's judged bytes follow the fixed ones, and the padding is what is left of the header
 pub security-runs : (f : SecurityFields) (identity provider info end : ℕ)
@@ -25,10 +66,10 @@ pub security-runs : (f : SecurityFields) (identity provider info end : ℕ)
     ++ replicate info 8
     ++ replicate (end - (provider + info)) 0
     ≡ securityMask f
-unfolding securityMask securityLength padded
+unfolding securityLength padded
 security-runs f identity provider info end i p n e =
     let rest : end - (provider + info) ≡ padding 4 (f .«provider_info_size» .0) = omega arith in
-    rw (rest, i, p, n, ← replicate-append-replicate {A = ℕ} 14 (judgedIdentity f) 8)
+    rw (security-parts, security-fixed, rest, i, p, n, ← replicate-append-replicate {A = ℕ} 14 (judgedIdentity f) 8)
     (ap (λ (r : List ℕ). replicate 1 8 ++ (replicate 1 4 ++ (replicate 14 8 ++ r)))
     (regroup (replicate (judgedIdentity f) 8) (replicate (providerAt f - (16 + judgedIdentity f)) 0) (replicate (f .«provider_info_size» .0) 8) (replicate (padding 4 (f .«provider_info_size» .0)) 0)))
 
@@ -42,5 +83,13 @@ pub properties-runs : (f : PropertiesFields) (label size : ℕ) → label ≡ la
     ++ replicate (24 + label) 8
     ++ replicate (size - (56 + label)) 0
     ≡ propertiesMask f
-unfolding propertiesMask
-properties-runs f label size l e = simp (l, e, ← replicate-append-replicate {A = ℕ} 24 (labelBytes f) 8, append-assoc)
+unfolding propertiesBits propertiesLength padded
+properties-runs f label size l e =
+    let x = f .«extension_size» .0 in
+    let y = f .«message_size» .0 in
+    let pad = padding 4 (56 + labelBytes f + x + y) in
+    let none : ℕ → List ℕ = λ n. replicate n 0 in
+    let size-eq : x + (y + pad) ≡ size - (56 + labelBytes f) = omega arith in
+    let zeros : none x ++ (none y ++ none pad) ≡ none (size - (56 + labelBytes f)) =
+    runs-append x y 0 (none pad) ∙ replicate-append-replicate (x + y) pad 0 ∙ ap none (add-assoc x y pad ∙ size-eq) in
+    simp (properties-fixed, l, ← replicate-append-replicate {A = ℕ} 24 (labelBytes f) 8, append-assoc, zeros)

@@ -9,7 +9,7 @@ use borrow.Author.Tests.{le-ltb}
 use lib.ListN.{length}
 use Rattle.octets.specs.Number.{le}
 use Rattle.octets.proofs.Laws.Number.{le-lt}
-use Rattle.rules.specs.Judged.{masked}
+use Rattle.rules.specs.Judged.{masked, propertiesBits, sectionBits, securityBits}
 use Rattle.rules.specs.Security.{ST, identityHead, identitySize, securityContents, securityFields, securityLength, securityParts, securitySteps}
 use Rattle.rules.specs.Reading.{fullReading, read, summarize}
 use Rattle.rules.specs.Summary.{labelOf, noSecurity, propertiesAt, sectionOf, summaryOf}
@@ -37,8 +37,7 @@ use Rattle.writing.proofs.Laws.SecurityShown.{SecurityOf}
 use Rattle.writing.proofs.Laws.Shown.{Shown, shown-append}
 
 -- a way to change what was read before it is written: what is tested stays, and each header shows what its mask counts
-pub record Way (k : Given → Given) (securityBits : SecurityFields → List ℕ) (propertiesBits : PropertiesFields → List ℕ)
-    : Type 0 where
+pub record Way (k : Given → Given) (p : ℕ) : Type 0 where
   pub first : (g : Given) → k g .values .«security_first» ≡ g .values .«security_first»
   pub security : (g : Given) → securityGiven (k g) ≡ securityGiven g
   pub properties : (g : Given) → propertiesGiven (k g) ≡ propertiesGiven g
@@ -47,9 +46,9 @@ pub record Way (k : Given → Given) (securityBits : SecurityFields → List ℕ
   pub identity : (g : Given) → identitySize (ST (securityGiven g)) (securityGiven g .«sender_id_size» .0) ≡ true
       → identityHead (securityGiven g) (k g .senderId) ≡ identityHead (securityGiven g) (g .senderId)
   pub securityShown : (g : Given) (s : List ℕ) → Octets s → SecurityOf g s
-      → Shown (securityBits (securityGiven g)) (securityBytes (k g)) s 0
-  pub propertiesShown : (g : Given) (s : List ℕ) (p : ℕ) → Octets s → PropertiesOf g s p
-      → Shown (propertiesBits (propertiesGiven g)) (propertiesBytes (k g)) s p
+      → Shown (securityBits p (securityGiven g)) (securityBytes (k g)) s 0
+  pub propertiesShown : (g : Given) (s : List ℕ) (at : ℕ) → Octets s → PropertiesOf g s at
+      → Shown (propertiesBits p (propertiesGiven g)) (propertiesBytes (k g)) s at
 
 -- an accepted input has a summary, of which the full reading is made
 pub accepted : (s : List ℕ) (x : Summarized) (r : Section) → fullReading s x ≡ Reading·Accepted r
@@ -70,18 +69,13 @@ summary-passed first s m e =
     let same : m .«security_first» ≡ first = ap (λ (x : Summary). x .«security_first») (a .properties .summary) in
     subst (λ (b : Bool). SectionPassed b s m) (sym same) a
 
-module _ {k : Given → Given} {securityBits : SecurityFields → List ℕ} {propertiesBits : PropertiesFields → List ℕ}
-    (w : Way k securityBits propertiesBits) where
-  -- the mask of a section
-  abbrev shownOf : Summary → List ℕ
-  shownOf m = cond (m .«security_first») (securityBits (m .security .fields)) [] ++ propertiesBits (m .properties)
-
+module _ {k : Given → Given} {bits : ℕ} (w : Way k bits) where
   -- the SecurityHeader read is shown
   header-shown : (first : Bool) (s : List ℕ) (m : Summary) → Octets s → HeaderPassed first s (m .security)
-      → Shown (cond first (securityBits (m .security .fields)) []) (headerBytes first (k (givenAgain m s))) s 0
+      → Shown (cond first (securityBits bits (m .security .fields)) []) (headerBytes first (k (givenAgain m s))) s 0
   unfolding masked
   header-shown true s m b a =
-      subst (λ (f : SecurityFields). Shown (securityBits f) (securityBytes (k (givenAgain m s))) s 0)
+      subst (λ (f : SecurityFields). Shown (securityBits bits f) (securityBytes (k (givenAgain m s))) s 0)
       (securityGiven-again true s m a) (w .securityShown (givenAgain m s) s b (security-of s m a))
   header-shown false s m b a = record { size = refl; kept = refl }
 
@@ -154,14 +148,15 @@ module _ {k : Given → Given} {securityBits : SecurityFields → List ℕ} {pro
         }
 
     -- the section's bytes, as far as the masks show them
-    again-shown : Shown (shownOf m)
+    again-shown : Shown (sectionBits bits m)
         (headerBytes (m .«security_first») (k (givenAgain m s)) ++ propertiesBytes (k (givenAgain m s))) s 0
+    unfolding sectionBits
     again-shown =
         let first = m .«security_first» in
         let g = givenAgain m s in
         let shown = w .propertiesShown g s (propertiesAt m) b (properties-of first s m (a .properties)) in
-        let properties : Shown (propertiesBits (m .properties)) (propertiesBytes (k g)) s (propertiesAt m) =
-        subst (λ (f : PropertiesFields). Shown (propertiesBits f) (propertiesBytes (k g)) s (propertiesAt m))
+        let properties : Shown (propertiesBits bits (m .properties)) (propertiesBytes (k g)) s (propertiesAt m) =
+        subst (λ (f : PropertiesFields). Shown (propertiesBits bits f) (propertiesBytes (k g)) s (propertiesAt m))
         (propertiesGiven-again first s m (a .properties)) shown in
         shown-append (header-shown first s m b (a .security))
         (zero-add (length (headerBytes first (k g))) ∙ length-headerBytes first (k g) ∙ start-again first s m (a .security))
@@ -169,7 +164,7 @@ module _ {k : Given → Given} {securityBits : SecurityFields → List ℕ} {pro
 
     -- its length, and its bytes
     again : (placeSection (k (givenAgain m s)) ≡ At (m .parts .«section_length»))
-        × (sectionBytes (k (givenAgain m s)) ≡ masked (shownOf m) s)
+        × (sectionBytes (k (givenAgain m s)) ≡ masked (sectionBits bits m) s)
     unfolding givenOf sectionOf sectionBytes
     again =
         let g = givenAgain m s in
@@ -182,12 +177,12 @@ module _ {k : Given → Given} {securityBits : SecurityFields → List ℕ} {pro
   -- what was accepted, written again in this way: it has the section's length, and shows what the masks count
   pub accepted-again : (first : Bool) (s : List ℕ) (r : Section) → Octets s → read first s ≡ Reading·Accepted r
       → (placeSection (k (givenOf r s)) ≡ At (r .summary .parts .«section_length»))
-      × (sectionBytes (k (givenOf r s)) ≡ masked (shownOf (r .summary)) s)
+      × (sectionBytes (k (givenOf r s)) ≡ masked (sectionBits bits (r .summary)) s)
   unfolding read
   accepted-again first s r b e =
       let m = r .summary in
       let a = accepted s (summarize first s) r e in
       subst
       (λ (x : Section). (placeSection (k (givenOf x s)) ≡ At (m .parts .«section_length»))
-      × (sectionBytes (k (givenOf x s)) ≡ masked (shownOf m) s))
+      × (sectionBytes (k (givenOf x s)) ≡ masked (sectionBits bits m) s))
       (sym (a .1)) (again s m b (summary-passed first s m (a .0)))

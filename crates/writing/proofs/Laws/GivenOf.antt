@@ -5,7 +5,7 @@ use mathlib.Core.Bool.{Bool, true, false}
 use mathlib.Core.List.{List}
 use native.Mathlib.Nat.{mod-mod}
 use native.Mathlib.Omega.{arith}
-use lib.ListN.{length, drop, getD}
+use lib.ListN.{length, drop}
 use Rattle.octets.specs.Number.{le}
 use Rattle.octets.specs.Padding.{padded}
 use Rattle.octets.specs.Part.{within}
@@ -43,15 +43,14 @@ layout-again : (s : List ℕ) (f : SecurityFields) → securityLength f ≤ leng
     → securityAgain s f (securityParts f) ≡ f
 unfolding securityParts securityLength providerAt certAt signatureAt keyAt padded
 layout-again s f room flags =
-    λ i.
-    record {
-      flags = flags i;
-      «sender_id_size» = bytes (length-within s 16 (f .«sender_id_size» .0) (omega arith) i);
-      «encryption_key_size» = bytes (length-within s (keyAt f) (f .«encryption_key_size» .0) (omega arith) i);
-      «signature_size» = bytes (length-within s (signatureAt f) (f .«signature_size» .0) (omega arith) i);
-      «sender_cert_size» = bytes (length-within s (certAt f) (f .«sender_cert_size» .0) (omega arith) i);
-      «provider_info_size» = bytes (length-within s (providerAt f) (f .«provider_info_size» .0) (omega arith) i);
-    }
+    rw (
+      flags,
+      length-within s 16 (f .«sender_id_size» .0) (omega arith),
+      length-within s (keyAt f) (f .«encryption_key_size» .0) (omega arith),
+      length-within s (signatureAt f) (f .«signature_size» .0) (omega arith),
+      length-within s (certAt f) (f .«sender_cert_size» .0) (omega arith),
+      length-within s (providerAt f) (f .«provider_info_size» .0) (omega arith),
+    )
 
 -- so for the header that was read, and for none
 header-again : (first : Bool) (s : List ℕ) (h : SecurityHeader) → HeaderPassed first s h
@@ -66,14 +65,7 @@ header-again true s h a =
     (layout-again s (h .fields) room flags)
 header-again false s h a =
     let none : length (within s 0 0) ≡ 0 = ap length (within-none s 0) in
-    let e : securityAgain s (noSecurity .fields) (noSecurity .parts) ≡ noSecurity .fields = λ i. record {
-      flags = 0;
-      «sender_id_size» = bytes (none i);
-      «encryption_key_size» = bytes (none i);
-      «signature_size» = bytes (none i);
-      «sender_cert_size» = bytes (none i);
-      «provider_info_size» = bytes (none i);
-    } in
+    let e : securityAgain s (noSecurity .fields) (noSecurity .parts) ≡ noSecurity .fields = rw none in
     subst (λ (h : SecurityHeader). securityAgain s (h .fields) (h .parts) ≡ h .fields) (sym a) e
 
 -- the fields of a MessagePropertiesHeader that was read, with the sizes of its parts
@@ -99,19 +91,12 @@ unfolding propertiesParts propertiesLength bodyAt extensionAt padded
 properties-again s p f room flags =
     let label : length (within s (p + 56) (labelBytes f)) ≡ labelBytes f = length-within s (p + 56) (labelBytes f) (omega arith) in
     let units : length (within s (p + 56) (labelBytes f)) / 2 ≡ f .«label_length» .0 = omega arith in
-    λ i.
-    record {
-      flags = flags i;
-      «label_length» = record { 0 = units i };
-      «message_class» = f .«message_class»;
-      «body_type» = f .«body_type»;
-      «message_size» = bytes (length-within s (bodyAt p f) (f .«message_size» .0) (omega arith) i);
-      «allocation_body_size» = f .«allocation_body_size»;
-      «privacy_level» = f .«privacy_level»;
-      «hash_algorithm» = f .«hash_algorithm»;
-      «encryption_algorithm» = f .«encryption_algorithm»;
-      «extension_size» = bytes (length-within s (extensionAt p f) (f .«extension_size» .0) (omega arith) i);
-    }
+    rw (
+      flags,
+      units,
+      length-within s (bodyAt p f) (f .«message_size» .0) (omega arith),
+      length-within s (extensionAt p f) (f .«extension_size» .0) (omega arith),
+    )
 
 -- what the full reading of the input gives to the writer
 abbrev pub givenAgain : Summary → List ℕ → Given
@@ -153,7 +138,7 @@ module _ (first : Bool) (s : List ℕ) (m : Summary) (a : PropertiesPassed first
       let fits = properties-fits f p (m .parts) (a .fits) in
       let flags : f .flags % 16 ≡ f .flags =
       subst (λ (f : PropertiesFields). f .flags % 16 ≡ f .flags) (sym (properties-fields first s m a))
-      (mod-mod (getD (drop p s) 0 0) 16) in
+      (mod-mod (le 1 (drop p s) 0) 16) in
       let room : p + propertiesLength f ≤ length s = rw (← fits .size) (a .reaches) in
       subst (λ (parts : PropertiesParts). propertiesAgain s f parts ≡ f) (sym (fits .layout)) (properties-again s p f room flags)
 
@@ -172,12 +157,11 @@ module _ (first : Bool) (s : List ℕ) (m : Summary) (a : PropertiesPassed first
       record {
         room = rw e reaches;
         even = omega arith;
-        correlation = length-within s (p + 4) 20 (omega arith);
+        correlation = refl;
         fields = e ∙ properties-fields first s m a;
         tag = refl;
         parts =
             record {
-              correlation = refl;
               label = ap (λ (x : PropertiesParts). partOf s (x .label)) layout;
               extension = ap (λ (x : PropertiesParts). partOf s (x .extension)) layout;
               body = ap (λ (x : PropertiesParts). partOf s (x .body)) layout;

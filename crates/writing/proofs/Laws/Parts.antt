@@ -11,8 +11,8 @@ use Rattle.rules.specs.Properties.{bodyAt, extensionAt, propertiesParts}
 use Rattle.rules.specs.Security.{certAt, keyAt, providerAt, securityParts, signatureAt}
 use Rattle.rules.specs.Summary.{partOf}
 use Rattle.writing.specs.Given.{Given, propertiesGiven, securityGiven}
-use Rattle.writing.specs.Writing.{paddedPart, propertiesBytes, securityBytes, securityFixed}
-use Rattle.writing.proofs.Laws.Row.{fixedBefore, fixedBehind, lastPadding, length-fixedBefore, length-fixedBehind, length-paddedPart, length-securityFixed, properties-row, security-row}
+use Rattle.writing.specs.Writing.{paddedPart, propertiesBytes, propertiesFixed, securityBytes, securityFixed}
+use Rattle.writing.proofs.Laws.Row.{lastPadding, length-paddedPart, length-propertiesFixed, length-securityFixed, properties-row, security-row}
 
 module _ (s xs ys : List ℕ) (at : ℕ) (row : drop at s ≡ paddedPart xs ++ ys) where
   -- a padded part at its place
@@ -60,7 +60,6 @@ securityParts-written g rest =
 
 -- and so where a MessagePropertiesHeader of their sizes at p has them
 pub record PropertiesPartsAt (g : Given) (s : List ℕ) (p : ℕ) : Type 0 where
-  pub correlation : within s (p + 4) 20 ≡ g .correlationId
   pub label : partOf s (propertiesParts p (propertiesGiven g) .label) ≡ g .label
   pub extension : partOf s (propertiesParts p (propertiesGiven g) .extension) ≡ g .extension
   pub body : partOf s (propertiesParts p (propertiesGiven g) .body) ≡ g .body
@@ -72,16 +71,12 @@ unfolding propertiesParts propertiesGiven extensionAt bodyAt
 propertiesParts-written g s rest p c even row =
     let body = g .body ++ (lastPadding g ++ rest) in
     let extension = g .extension ++ body in
-    let behind = fixedBehind g ++ (g .label ++ extension) in
     let label : length (g .label) ≡ 2 * (length (g .label) / 2) = omega arith in
-    let row₁ = drop-next s (fixedBefore g) (g .correlationId ++ behind) p (p + 4) (row ∙ properties-row g rest)
-    (ap (_+_ p) (length-fixedBefore g)) in
-    let row₂ = drop-next s (g .correlationId) behind (p + 4) (p + 24) row₁ (omega arith) in
-    let row₃ = drop-next s (fixedBehind g) (g .label ++ extension) (p + 24) (p + 56) row₂ (omega (arith, length-fixedBehind g)) in
+    let row₃ = drop-next s (propertiesFixed g) (g .label ++ extension) p (p + 56) (row ∙ properties-row g rest)
+    (ap (_+_ p) (length-propertiesFixed g c)) in
     let row₄ = drop-next s (g .label) extension (p + 56) _ row₃ (ap (_+_ (p + 56)) label) in
     let row₅ = drop-next s (g .extension) body (p + 56 + 2 * (length (g .label) / 2)) _ row₄ refl in
     record {
-      correlation = within-row s (g .correlationId) behind (p + 4) 20 row₁ c;
       label = within-row s (g .label) extension (p + 56) _ row₃ label;
       extension = within-row s (g .extension) body _ _ row₄ refl;
       body = within-row s (g .body) (lastPadding g ++ rest) _ _ row₅ refl;

@@ -9,19 +9,21 @@ use lib.ListN.{length, drop, length-append}
 use lib.Dec.{ltb}
 use lib.Seq.{drop-at}
 use Rattle.octets.specs.Padding.{padded}
-use Rattle.rules.specs.Properties.{propertiesLength, propertiesParts}
+use Rattle.octets.proofs.Laws.Number.{length-toLe}
+use Rattle.rules.specs.Properties.{propertiesLength, propertiesParts, propertiesRow}
 use Rattle.rules.specs.Reading.{fullReading, read, securityHeader}
-use Rattle.rules.specs.Security.{ST, certAt, keyAt, providerAt, securityLength, securityParts, signatureAt}
+use Rattle.rules.specs.Security.{ST, certAt, keyAt, providerAt, securityLength, securityParts, securityRow, signatureAt}
 use Rattle.rules.specs.Summary.{labelOf, noSecurity, partOf, sectionOf, summaryOf}
 use Rattle.rules.specs.declared.section.Section.{Section}
 use Rattle.rules.specs.declared.section.Summary.{Summary}
 use Rattle.rules.specs.declared.security.SecurityHeader.{SecurityHeader}
 use Rattle.rules.proofs.Laws.Accepted.{HeaderPassed, SectionPassed, identity-small, neither, properties-fits, section-passed, security-fits}
 use Rattle.rules.proofs.Laws.Layout.{properties-sizes, security-sizes}
+use Rattle.rules.proofs.Laws.Row.{FieldFits, Fits}
 use Rattle.writing.specs.Given.{Given, propertiesGiven, securityGiven}
 use Rattle.writing.specs.Theorems.{ReadsBack, WellFormed}
 use Rattle.writing.specs.Writing.{propertiesBytes, sectionBytes, securityBytes, tooLarge}
-use Rattle.writing.proofs.Laws.Fields.{PropertiesHolds, SecurityHolds, propertiesFields-written, securityFields-written, tag-written}
+use Rattle.writing.proofs.Laws.Fields.{PropertiesHolds, SecurityHolds, correlation-written, propertiesFields-written, securityFields-written, tag-written}
 use Rattle.writing.proofs.Laws.Parts.{PropertiesPartsAt, propertiesParts-written, securityParts-written}
 use Rattle.writing.proofs.Laws.Placed.{HeaderPlaced, SectionPlaced, SecurityPlaced, startOf}
 use Rattle.writing.proofs.Laws.Row.{headerBytes, length-headerBytes, length-propertiesBytes, length-securityBytes}
@@ -38,28 +40,22 @@ tooLarge-sizes g e =
 
 -- sizes that passed fit their fields
 security-holds : (g : Given) → SecurityPlaced g → SecurityHolds g
-unfolding securityGiven
+unfolding securityGiven securityRow Fits FieldFits
 security-holds g a =
     let f = securityGiven g in
     let fits = security-fits f 0 (securityParts f) (a .fits) in
     let sizes = security-sizes f in
     let small = tooLarge-sizes g (a .small) in
-    record {
-      senderId = omega (arith, identity-small (ST f) (length (g .senderId)) (fits .identity));
-      encryptionKey = omega arith;
-      signature = omega arith;
-      senderCert = omega arith;
-      providerInfo = omega arith;
-    }
+    omega (arith, identity-small (ST f) (length (g .senderId)) (fits .identity))
 
-properties-holds : (first : Bool) (g : Given) (n : ℕ) → SectionPlaced first g n → PropertiesHolds g
-unfolding propertiesGiven
-properties-holds first g n a =
+properties-holds : (first : Bool) (g : Given) (n : ℕ) → WellFormed g → SectionPlaced first g n → PropertiesHolds g
+unfolding propertiesGiven propertiesRow Fits FieldFits
+properties-holds first g n w a =
     let f = propertiesGiven g in
     let p = startOf first g in
     let fits = properties-fits f p (propertiesParts p f) (a .fits) in
     let sizes = properties-sizes f in
-    record { label = omega arith; body = omega arith; allocation = omega arith; extension = omega arith }
+    omega (arith, w, length-toLe 4 (g .values .«application_tag»))
 
 -- the header read from the bytes written
 abbrev headerOf : Bool → Given → List ℕ → SecurityHeader
@@ -137,7 +133,7 @@ module _ (first : Bool) (g : Given) (n : ℕ) (rest : List ℕ) (w : WellFormed 
   unfolding summaryOf labelOf propertiesParts propertiesLength padded
   section-read =
       let start = header-start first g input in
-      let fields = propertiesFields-written g rest w (properties-holds first g n a) in
+      let fields = propertiesFields-written g rest (properties-holds first g n w a) in
       let size : length input ≡ startOf first g + (propertiesLength (propertiesGiven g) + length rest) =
       simp (length-append, length-headerBytes, length-propertiesBytes g (w .correlation) (a .even)) in
       record {
@@ -163,12 +159,14 @@ section-back g n rest w a =
     let start = header-start first g s in
     let parts = properties-parts first g n rest w a in
     let header = header-back first g (propertiesBytes g ++ rest) (a .security) in
+    let holds = properties-holds first g n w a in
+    let room : startOf first g + 24 ≤ length s = omega (arith, start, section-read first g n rest w a .properties .fixed) in
     let back : ReadsBack g s (sectionOf m s) = record {
       reads = rw (section-passed first s m .1 (section-read first g n rest w a));
       security = λ e. header e .fields;
       properties = refl;
-      tag = rw (start, properties-behind first g n rest w a) (tag-written g rest w);
-      correlation = rw start (parts .correlation);
+      tag = rw (start, properties-behind first g n rest w a) (tag-written g rest holds w);
+      correlation = rw start (correlation-written g rest holds s (startOf first g) (properties-behind first g n rest w a) room);
       senderId = λ e. header e .senderId;
       encryptionKey = λ e. header e .encryptionKey;
       signature = λ e. header e .signature;

@@ -8,8 +8,9 @@ use lib.ListN.{length, replicate, length-append, length-replicate}
 use Rattle.octets.specs.Number.{toLe}
 use Rattle.octets.specs.Padding.{padded, padding}
 use Rattle.octets.proofs.Laws.Number.{length-toLe}
-use Rattle.rules.specs.Properties.{propertiesLength}
-use Rattle.rules.specs.Security.{certAt, keyAt, providerAt, securityLength, signatureAt}
+use Rattle.rules.specs.Properties.{propertiesLength, propertiesRow}
+use Rattle.rules.specs.Row.{fieldBytes, rowBytes}
+use Rattle.rules.specs.Security.{certAt, keyAt, providerAt, securityLength, securityRow, signatureAt}
 use Rattle.writing.specs.Given.{Given, propertiesGiven, securityGiven}
 use Rattle.writing.specs.Writing.{paddedPart, propertiesBytes, propertiesFixed, securityBytes, securityFixed}
 use Rattle.writing.proofs.Laws.Placed.{startOf}
@@ -20,8 +21,8 @@ unfolding paddedPart padded
 length-paddedPart xs = simp (length-append, length-replicate)
 
 pub length-securityFixed : (g : Given) → length (securityFixed g) ≡ 16
-unfolding securityFixed
-length-securityFixed g = simp (length-append, length-toLe)
+unfolding securityFixed rowBytes securityRow fieldBytes toLe
+length-securityFixed g = refl
 
 pub length-securityBytes : (g : Given) → length (securityBytes g) ≡ securityLength (securityGiven g)
 unfolding securityBytes securityGiven securityLength providerAt certAt signatureAt keyAt
@@ -45,42 +46,18 @@ pub security-row : (g : Given) (rest : List ℕ)
 unfolding securityBytes
 security-row g rest = simp append-assoc
 
--- the fixed bytes of a MessagePropertiesHeader before its CorrelationID, and those behind it
-unfoldable pub fixedBefore : Given → List ℕ
-fixedBefore g =
-    toLe 1 (g .values .flags % 16) ++ (toLe 1 (propertiesGiven g .«label_length» .0) ++ toLe 2 (g .values .«message_class»))
-
-unfoldable pub fixedBehind : Given → List ℕ
-fixedBehind g =
-    toLe 4 (g .values .«body_type»)
-    ++ (toLe 4 (g .values .«application_tag»)
-    ++ (toLe 4 (length (g .body))
-    ++ (toLe 4 (g .values .«allocation_body_size» .0)
-    ++ (toLe 4 (g .values .«privacy_level»)
-    ++ (toLe 4 (g .values .«hash_algorithm») ++ (toLe 4 (g .values .«encryption_algorithm») ++ toLe 4 (length (g .extension))))))))
-
-pub length-fixedBefore : (g : Given) → length (fixedBefore g) ≡ 4
-unfolding fixedBefore
-length-fixedBefore g = simp (length-append, length-toLe)
-
-pub length-fixedBehind : (g : Given) → length (fixedBehind g) ≡ 32
-unfolding fixedBehind
-length-fixedBehind g = simp (length-append, length-toLe)
-
 -- the padding behind its parts
 unfoldable pub lastPadding : Given → List ℕ
 lastPadding g = replicate (padding 4 (length (propertiesFixed g ++ (g .label ++ (g .extension ++ g .body))))) 0
 
 -- a MessagePropertiesHeader, and what follows it
 pub properties-row : (g : Given) (rest : List ℕ)
-    → propertiesBytes g ++ rest
-    ≡ fixedBefore g
-    ++ (g .correlationId ++ (fixedBehind g ++ (g .label ++ (g .extension ++ (g .body ++ (lastPadding g ++ rest))))))
-unfolding propertiesBytes propertiesFixed paddedPart fixedBefore fixedBehind lastPadding
+    → propertiesBytes g ++ rest ≡ propertiesFixed g ++ (g .label ++ (g .extension ++ (g .body ++ (lastPadding g ++ rest))))
+unfolding propertiesBytes paddedPart lastPadding
 properties-row g rest = simp append-assoc
 
 pub length-propertiesFixed : (g : Given) → length (g .correlationId) ≡ 20 → length (propertiesFixed g) ≡ 56
-unfolding propertiesFixed
+unfolding propertiesFixed rowBytes propertiesRow fieldBytes
 length-propertiesFixed g c = simp (length-append, length-toLe) (omega arith)
 
 -- with the parts behind them, and no padding

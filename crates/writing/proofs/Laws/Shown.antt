@@ -1,9 +1,10 @@
 -- Pieces of what is written that show the input through a mask.
-use Prim.Native.Nat.{ℕ, _+_, _≤_}
+use Prim.Native.Nat.{ℕ, _+_, _-_, _≤_}
 use mathlib.Core.Path.{_≡_, refl, sym, ap, ap₂, subst, _∙_}
-use mathlib.Core.List.{List, _++_}
+use mathlib.Core.List.{List, _++_, append-nil}
+use native.Mathlib.Nat.{sub-self, sub-zero}
 use native.Mathlib.Omega.{arith}
-use lib.ListN.{length, take, drop, replicate, length-append, length-drop, length-replicate}
+use lib.ListN.{length, take, drop, replicate, length-append, length-drop, length-replicate, replicate-append-replicate}
 use lib.Seq.{drop-drop, getD-drop, length-take-le}
 use Rattle.octets.specs.Number.{le, toLe}
 use Rattle.octets.specs.Padding.{padded, padding}
@@ -11,7 +12,9 @@ use Rattle.octets.specs.Part.{within}
 use Rattle.octets.proofs.Laws.Number.{toLe-le}
 use Rattle.octets.proofs.Laws.Part.{within-in}
 use Rattle.rules.specs.Judged.{masked}
-use Rattle.rules.proofs.Laws.Masked.{masked-append, masked-none, masked-whole}
+use Rattle.rules.specs.Row.{Field, rowBits, rowBytes, rowSize}
+use Rattle.rules.proofs.Laws.Masked.{length-masked-le, masked-append, masked-none, masked-whole}
+use Rattle.rules.proofs.Laws.Row.{Reads, keep, length-rowBits, row-again}
 use Rattle.writing.specs.Theorems.{Octets}
 use Rattle.writing.specs.Writing.{paddedPart}
 use Rattle.writing.proofs.Laws.Row.{length-paddedPart}
@@ -63,6 +66,26 @@ module _ (s : List ℕ) (at n : ℕ) (room : at + n ≤ length s) where
   -- and a number in it
   pub shown-number : Octets s → Shown (replicate n 8) (toLe n (le n s at)) s at
   shown-number b = rw (toLe-le n s at b room) (shown-whole b)
+
+-- a row of fields that were read
+pub shown-row : {F : Type 0} (row : List (Field F)) (x : F) (p : ℕ) (s : List ℕ) → Octets s → rowSize row ≤ length s
+    → Reads (keep p) row x s 0 → Shown (rowBits p row) (rowBytes row x) s 0
+shown-row row x p s b h e =
+    let kept = row-again x p (keep p) s b (λ w at l. refl) row 0 (omega arith) e in
+    record { size = ap length kept ∙ length-masked-le (rowBits p row) s (rw length-rowBits h); kept = kept }
+
+module _ {xs s : List ℕ} {at : ℕ} where
+  -- a part of which j bytes are judged and all are shown; one that is judged; one that is private
+  pub shown-all : (j n : ℕ) → j ≤ n → Shown (replicate n 8) xs s at → Shown (replicate j 8 ++ replicate (n - j) 8) xs s at
+  shown-all j n h a =
+      let e : j + (n - j) ≡ n = omega arith in
+      rw (replicate-append-replicate {A = ℕ} j (n - j) 8, e) a
+
+  pub shown-judged : (p n : ℕ) → Shown (replicate n 8) xs s at → Shown (replicate n 8 ++ replicate (n - n) p) xs s at
+  shown-judged p n a = rw (sub-self n, append-nil {A = ℕ} (replicate n 8)) a
+
+  pub shown-private : (p n : ℕ) → Shown (replicate n p) xs s at → Shown (replicate 0 8 ++ replicate (n - 0) p) xs s at
+  shown-private p n a = rw (sub-zero n) a
 
 -- a part's mask, and none of its padding
 abbrev pub paddedMask : ℕ → List ℕ → List ℕ

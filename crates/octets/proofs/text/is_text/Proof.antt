@@ -69,17 +69,17 @@ all-but-last s even some last =
     sym (ap zeros w) ∙ zeros-take-suc us k (omega arith) ∙ ap (λ (t : Bool). zeros (take k us) + cond t 1 0) (eq-eqb (getD us k 0) 0 l) in
     succ-one (zeros (take k us)) ∙ ap (λ (z : ℕ). eqb z 1) (sym t)
 
-sub-no-zero : tie.Need-sub-no-zero
-sub-no-zero c = omega arith
+sub-no-zero-in : tie.Need-sub-no-zero-in
+sub-no-zero-in c = omega arith
 
-no-zero-requires : tie.Need-no-zero-requires
-no-zero-requires c κs = omega arith
+no-zero-in-requires : tie.Need-no-zero-in-requires
+no-zero-in-requires c κs = omega arith
 
 returns-5 : tie.Need-returns-5
 returns-5 c =
     let s = now (c .before .before .before .before .before .before .before .before .args .s) in
     let z : le 2 s (length s - 2) ≡ 0 = omega (arith, last-unit s (omega arith)) in
-    rw (isText-counted s (omega arith) (omega arith), eq-eqb (le 2 s (length s - 2)) 0 z) (c .no-zero .ensures ∙ all-but-last s (omega arith) (omega arith) z)
+    rw (isText-counted s (omega arith) (omega arith), eq-eqb (le 2 s (length s - 2)) 0 z) (c .no-zero-in .ensures ∙ all-but-last s (omega arith) (omega arith) z)
 
 pub is-text-spec : {M : Type 1} → statement M
 is-text-spec =
@@ -93,6 +93,6 @@ is-text-spec =
     sub-if4
     shared-slice-read-if4
     returns-4
-    sub-no-zero
-    no-zero-requires
+    sub-no-zero-in
+    no-zero-in-requires
     returns-5)

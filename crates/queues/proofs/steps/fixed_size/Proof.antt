@@ -1,5 +1,5 @@
 -- `queues::steps::fixed_size` meets its contract: the code makes the definition's tests in its order. Assumes nothing.
-use borrow.Author.Tests.{eq-eqb, ne-eqb}
+use Rattle.octets.proofs.Laws.Steps.{steps}
 use Rattle.rules.specs.Listed.{listed}
 use Rattle.queues.specs.Steps.{fixedSize}
 use Rattle.queues.proofs.steps.fixed_size.Statement.{statement}
@@ -7,31 +7,31 @@ use Rattle.queues.proofs.steps.fixed_size.Tie as tie
 
 returns : tie.Need-returns
 unfolding fixedSize listed
-returns c = simp (eq-eqb _ _ (c .if1 .taken))
+returns c = search steps depth 20
 
 returns-2 : tie.Need-returns-2
 unfolding fixedSize listed
-returns-2 c = simp (ne-eqb _ _ (c .before .if1 .left), eq-eqb _ _ (c .if2 .taken))
+returns-2 c = search steps depth 20
 
 returns-3 : tie.Need-returns-3
 unfolding fixedSize listed
-returns-3 c = simp (ne-eqb _ _ (c .before .before .if1 .left), ne-eqb _ _ (c .before .if2 .left), eq-eqb _ _ (c .if3 .taken))
+returns-3 c = search steps depth 20
 
 returns-4 : tie.Need-returns-4
 unfolding fixedSize listed
-returns-4 c = simp (ne-eqb _ _ (c .before .before .before .if1 .left), ne-eqb _ _ (c .before .before .if2 .left), ne-eqb _ _ (c .before .if3 .left), eq-eqb _ _ (c .if4 .taken))
+returns-4 c = search steps depth 20
 
 returns-5 : tie.Need-returns-5
 unfolding fixedSize listed
-returns-5 c = simp (ne-eqb _ _ (c .before .before .before .before .if1 .left), ne-eqb _ _ (c .before .before .before .if2 .left), ne-eqb _ _ (c .before .before .if3 .left), ne-eqb _ _ (c .before .if4 .left), eq-eqb _ _ (c .if5 .taken))
+returns-5 c = search steps depth 20
 
 returns-6 : tie.Need-returns-6
 unfolding fixedSize listed
-returns-6 c = simp (ne-eqb _ _ (c .before .before .before .before .before .if1 .left), ne-eqb _ _ (c .before .before .before .before .if2 .left), ne-eqb _ _ (c .before .before .before .if3 .left), ne-eqb _ _ (c .before .before .if4 .left), ne-eqb _ _ (c .before .if5 .left), eq-eqb _ _ (c .if6 .taken))
+returns-6 c = search steps depth 20
 
 returns-7 : tie.Need-returns-7
 unfolding fixedSize listed
-returns-7 c = simp (ne-eqb _ _ (c .before .before .before .before .before .if1 .left), ne-eqb _ _ (c .before .before .before .before .if2 .left), ne-eqb _ _ (c .before .before .before .if3 .left), ne-eqb _ _ (c .before .before .if4 .left), ne-eqb _ _ (c .before .if5 .left), ne-eqb _ _ (c .if6 .left))
+returns-7 c = search steps depth 20
 
 pub fixed-size-spec : {M : Type 1} → statement M
 fixed-size-spec =

@@ -1,6 +1,7 @@
 -- Each field is the number that its read promises.
 use borrow.Author.Needs.{needs}
 use Rattle.rules.specs.Properties.{propertiesFields}
+use Rattle.rules.proofs.Laws.Row.{le-one}
 use Rattle.reading.proofs.properties.properties_fields.Statement.{statement}
 use Rattle.reading.proofs.properties.properties_fields.Tie as tie
 
@@ -48,7 +49,7 @@ cast-t19 c = search needs
 
 returns : tie.Need-returns
 unfolding propertiesFields
-returns c = simp (← c .before .before .before .before .before .before .before .before .before .u8-at .ensures, ← c .before .before .before .before .before .before .before .before .u8-at2 .ensures, ← c .before .before .before .before .before .before .before .u16-at .ensures, ← c .before .before .before .before .before .before .u32-at .ensures, ← c .before .before .before .before .before .u32-at2 .ensures, ← c .before .before .before .before .u32-at3 .ensures, ← c .before .before .before .u32-at4 .ensures, ← c .before .before .u32-at5 .ensures, ← c .before .u32-at6 .ensures, ← c .u32-at7 .ensures)
+returns c = simp (le-one, ← c .before .before .before .before .before .before .before .before .before .u8-at .ensures, ← c .before .before .before .before .before .before .before .before .u8-at2 .ensures, ← c .before .before .before .before .before .before .before .u16-at .ensures, ← c .before .before .before .before .before .before .u32-at .ensures, ← c .before .before .before .before .before .u32-at2 .ensures, ← c .before .before .before .before .u32-at3 .ensures, ← c .before .before .before .u32-at4 .ensures, ← c .before .before .u32-at5 .ensures, ← c .before .u32-at6 .ensures, ← c .u32-at7 .ensures)
 
 pub properties-fields-spec : {M : Type 1} → statement M
 properties-fields-spec =

@@ -1,6 +1,6 @@
 -- The tests that led to each answer pick its case of `algorithmMissing`.
 use borrow.Author.Needs.{needs}
-use borrow.Author.Tests.{not-false, not-true}
+use Rattle.octets.proofs.Laws.Steps.{negated, steps, told}
 use Rattle.requests.specs.Steps.{algorithmMissing}
 use Rattle.requests.proofs.steps.algorithm_missing.Statement.{statement}
 use Rattle.requests.proofs.steps.algorithm_missing.Tie as tie
@@ -10,14 +10,14 @@ is-given-requires c κs = search needs
 
 returns : tie.Need-returns
 unfolding algorithmMissing
-returns c i t d k s e n x b = simp (← c .before .is-given .ensures, not-true (c .before .is-given .result) (c .if1 .taken))
+returns c = search (steps, told, negated) depth 20
 
 is-given-requires-2 : tie.Need-is-given-requires-2
 is-given-requires-2 c κs = search needs
 
 returns-2 : tie.Need-returns-2
 unfolding algorithmMissing
-returns-2 c i t d k s e n x b = simp (← c .before .before .is-given .ensures, not-false (c .before .before .is-given .result) (c .before .if1 .left), ← c .is-given2 .ensures)
+returns-2 c = search (steps, told, negated) depth 20
 
 pub algorithm-missing-spec : {M : Type 1} → statement M
 algorithm-missing-spec =

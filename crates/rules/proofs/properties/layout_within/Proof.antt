@@ -3,6 +3,7 @@ use Prim.Native.Nat.{ℕ, _+_}
 use mathlib.Core.Path.{_≡_, ap, _∙_}
 use native.Mathlib.Omega.{arith}
 use borrow.Author.Needs.{needs}
+use Rattle.octets.proofs.Laws.Steps.{the}
 use Rattle.octets.specs.Padding.{padded}
 use Rattle.rules.specs.Properties.{bodyAt, extensionAt, labelBytes, propertiesLength}
 use Rattle.rules.specs.Security.{part}
@@ -25,37 +26,25 @@ refused-requires : tie.Need-refused-requires
 refused-requires c κs = search needs
 
 returns : tie.Need-returns
-returns c =
-    let a = c .before .before .before .args in
-    c .refused .ensures
-    ∙ too-long (a .at .0 + propertiesLength (a .f)) _ _ (omega (arith, properties-sizes (a .f)))
+returns c = let a = the tie.Start (search) .args in c .refused .ensures ∙ too-long (a .at .0 + propertiesLength (a .f)) _ _ (omega (arith, properties-sizes (a .f)))
 
 refused-requires-2 : tie.Need-refused-requires-2
 refused-requires-2 c κs = search needs
 
 returns-2 : tie.Need-returns-2
-returns-2 c =
-    let a = c .before .before .before .before .args in
-    c .refused2 .ensures
-    ∙ too-long (a .at .0 + propertiesLength (a .f)) _ _ (omega (arith, properties-sizes (a .f)))
+returns-2 c = let a = the tie.Start (search) .args in c .refused2 .ensures ∙ too-long (a .at .0 + propertiesLength (a .f)) _ _ (omega (arith, properties-sizes (a .f)))
 
 refused-requires-3 : tie.Need-refused-requires-3
 refused-requires-3 c κs = search needs
 
 returns-3 : tie.Need-returns-3
-returns-3 c =
-    let a = c .before .before .before .before .before .args in
-    c .refused3 .ensures
-    ∙ too-long (a .at .0 + propertiesLength (a .f)) _ _ (omega (arith, properties-sizes (a .f)))
+returns-3 c = let a = the tie.Start (search) .args in c .refused3 .ensures ∙ too-long (a .at .0 + propertiesLength (a .f)) _ _ (omega (arith, properties-sizes (a .f)))
 
 refused-requires-4 : tie.Need-refused-requires-4
 refused-requires-4 c κs = search needs
 
 returns-4 : tie.Need-returns-4
-returns-4 c =
-    let a = c .before .before .before .before .before .before .args in
-    c .refused4 .ensures
-    ∙ too-long (a .at .0 + propertiesLength (a .f)) _ _ (omega (arith, properties-sizes (a .f)))
+returns-4 c = let a = the tie.Start (search) .args in c .refused4 .ensures ∙ too-long (a .at .0 + propertiesLength (a .f)) _ _ (omega (arith, properties-sizes (a .f)))
 
 add-padded : tie.Need-add-padded
 add-padded c = search needs
@@ -77,8 +66,8 @@ refused-requires-5 c κs = search needs
 
 returns-5 : tie.Need-returns-5
 returns-5 c =
-    let a = c .before .before .before .before .before .before .before .before .args in
-    let whole = length-of (a .f) _ _ (c .before .before .before .before .before .before .before .bytes .ensures) (c .before .before .padded .ensures .0) in
+    let a = the tie.Start (search) .args in
+    let whole = length-of (a .f) _ _ (the tie.After-bytes (search) .bytes .ensures) (the tie.After-padded (search) .padded .ensures .0) in
     c .refused5 .ensures ∙ too-long (a .at .0 + propertiesLength (a .f)) _ _ (omega arith)
 
 add-extension-at : tie.Need-add-extension-at
@@ -105,13 +94,13 @@ part-requires-3 c κs = search needs
 returns-6 : tie.Need-returns-6
 unfolding extensionAt bodyAt
 returns-6 c =
-    let a = c .before .before .before .before .before .before .before .before .before .before .args in
-    let label = c .before .before .before .before .before .before .before .before .before .bytes .ensures in
-    let whole = length-of (a .f) _ _ label (c .before .before .before .before .padded .ensures .0) in
+    let a = the tie.Start (search) .args in
+    let label = the tie.After-bytes (search) .bytes .ensures in
+    let whole = length-of (a .f) _ _ label (the tie.After-padded (search) .padded .ensures .0) in
     ap Fits
     (properties-parts (a .at .0) (a .f) _ _ _ _
-    (c .before .before .part .ensures ∙ ap (part (a .at .0 + 56)) label)
-    (c .before .part2 .ensures ∙ ap (λ (k : ℕ). part k (a .f .«extension_size» .0)) (omega arith))
+    (the tie.After-part (search) .part .ensures ∙ ap (part (a .at .0 + 56)) label)
+    (the tie.After-part2 (search) .part2 .ensures ∙ ap (λ (k : ℕ). part k (a .f .«extension_size» .0)) (omega arith))
     (c .part3 .ensures ∙ ap (λ (k : ℕ). part k (a .f .«message_size» .0)) (omega arith))
     (omega arith))
     ∙ not-too-long (a .at .0 + propertiesLength (a .f)) _ _ (omega arith)

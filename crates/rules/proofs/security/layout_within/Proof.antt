@@ -1,8 +1,10 @@
 -- A size above the limit makes the header too long by itself; else every sum is small, and the parts lie where `securityParts` puts them.
 use Prim.Native.Nat.{ℕ}
 use mathlib.Core.Path.{ap, _∙_}
+use native.Mathlib.Nat.{lt-of-lt-of-le}
 use native.Mathlib.Omega.{arith}
 use borrow.Author.Needs.{needs}
+use Rattle.octets.proofs.Laws.Steps.{steps, the}
 use Rattle.rules.specs.Security.{keyAt, part, signatureAt, certAt, providerAt, securityLength}
 use Rattle.rules.specs.declared.security.SecurityLayout.the-variants.{Fits}
 use Rattle.rules.proofs.Laws.Layout.{not-too-long, security-parts, security-sizes, too-long}
@@ -13,41 +15,31 @@ refused-requires : tie.Need-refused-requires
 refused-requires c κs = search needs
 
 returns : tie.Need-returns
-returns c =
-    let a = c .before .before .args in
-    c .refused .ensures ∙ too-long (securityLength (a .f)) _ _ (omega (arith, security-sizes (a .f)))
+returns c = let s : tie.Start = search in search (steps, lt-of-lt-of-le, security-sizes (s .args .f))
 
 refused-requires-2 : tie.Need-refused-requires-2
 refused-requires-2 c κs = search needs
 
 returns-2 : tie.Need-returns-2
-returns-2 c =
-    let a = c .before .before .before .args in
-    c .refused2 .ensures ∙ too-long (securityLength (a .f)) _ _ (omega (arith, security-sizes (a .f)))
+returns-2 c = let s : tie.Start = search in search (steps, lt-of-lt-of-le, security-sizes (s .args .f))
 
 refused-requires-3 : tie.Need-refused-requires-3
 refused-requires-3 c κs = search needs
 
 returns-3 : tie.Need-returns-3
-returns-3 c =
-    let a = c .before .before .before .before .args in
-    c .refused3 .ensures ∙ too-long (securityLength (a .f)) _ _ (omega (arith, security-sizes (a .f)))
+returns-3 c = let s : tie.Start = search in search (steps, lt-of-lt-of-le, security-sizes (s .args .f))
 
 refused-requires-4 : tie.Need-refused-requires-4
 refused-requires-4 c κs = search needs
 
 returns-4 : tie.Need-returns-4
-returns-4 c =
-    let a = c .before .before .before .before .before .args in
-    c .refused4 .ensures ∙ too-long (securityLength (a .f)) _ _ (omega (arith, security-sizes (a .f)))
+returns-4 c = let s : tie.Start = search in search (steps, lt-of-lt-of-le, security-sizes (s .args .f))
 
 refused-requires-5 : tie.Need-refused-requires-5
 refused-requires-5 c κs = search needs
 
 returns-5 : tie.Need-returns-5
-returns-5 c =
-    let a = c .before .before .before .before .before .before .args in
-    c .refused5 .ensures ∙ too-long (securityLength (a .f)) _ _ (omega (arith, security-sizes (a .f)))
+returns-5 c = let s : tie.Start = search in search (steps, lt-of-lt-of-le, security-sizes (s .args .f))
 
 padded-requires : tie.Need-padded-requires
 padded-requires c κs = search needs
@@ -85,8 +77,8 @@ refused-requires-6 c κs = search needs
 returns-6 : tie.Need-returns-6
 unfolding keyAt signatureAt certAt providerAt securityLength
 returns-6 c =
-    let f = c .before .before .before .before .before .before .before .before .before .before .before .before .args .f in
-    c .refused6 .ensures ∙ too-long (securityLength f) _ _ (omega arith)
+    let s : tie.Start = search in
+    c .refused6 .ensures ∙ too-long (securityLength (s .args .f)) _ _ (omega arith)
 
 part-requires : tie.Need-part-requires
 part-requires c κs = search needs
@@ -103,21 +95,24 @@ part-requires-4 c κs = search needs
 part-requires-5 : tie.Need-part-requires-5
 part-requires-5 c κs = search needs
 
+entry : tie.Else6 → tie.Start
+entry c = search
+
 returns-7 : tie.Need-returns-7
-unfolding keyAt signatureAt certAt providerAt securityLength
+unfolding entry keyAt signatureAt certAt providerAt securityLength
 returns-7 c =
-    let f = c .before .before .before .before .before .before .before .before .before .before .before .before .before .before .before .before .args .f in
-    let identity = c .before .before .before .before .before .before .before .before .before .before .padded .ensures .0 in
-    let key = c .before .before .before .before .before .before .before .before .before .padded2 .ensures .0 in
-    let signature = c .before .before .before .before .before .before .before .before .padded3 .ensures .0 in
-    let cert = c .before .before .before .before .before .before .before .padded4 .ensures .0 in
-    let provider = c .before .before .before .before .before .before .padded5 .ensures .0 in
+    let f = entry (search) .args .f in
+    let identity = the tie.After-padded (search) .padded .ensures .0 in
+    let key = the tie.After-padded2 (search) .padded2 .ensures .0 in
+    let signature = the tie.After-padded3 (search) .padded3 .ensures .0 in
+    let cert = the tie.After-padded4 (search) .padded4 .ensures .0 in
+    let provider = the tie.After-padded5 (search) .padded5 .ensures .0 in
     ap Fits
     (security-parts f _ _ _ _ _ _
-    (c .before .before .before .before .part .ensures)
-    (c .before .before .before .part2 .ensures ∙ ap (λ (k : ℕ). part k (f .«encryption_key_size» .0)) (omega arith))
-    (c .before .before .part3 .ensures ∙ ap (λ (k : ℕ). part k (f .«signature_size» .0)) (omega arith))
-    (c .before .part4 .ensures ∙ ap (λ (k : ℕ). part k (f .«sender_cert_size» .0)) (omega arith))
+    (the tie.After-part (search) .part .ensures)
+    (the tie.After-part2 (search) .part2 .ensures ∙ ap (λ (k : ℕ). part k (f .«encryption_key_size» .0)) (omega arith))
+    (the tie.After-part3 (search) .part3 .ensures ∙ ap (λ (k : ℕ). part k (f .«signature_size» .0)) (omega arith))
+    (the tie.After-part4 (search) .part4 .ensures ∙ ap (λ (k : ℕ). part k (f .«sender_cert_size» .0)) (omega arith))
     (c .part5 .ensures ∙ ap (λ (k : ℕ). part k (f .«provider_info_size» .0)) (omega arith))
     (omega arith))
     ∙ not-too-long (securityLength f) _ _ (omega arith)

@@ -6,6 +6,8 @@ use native.Mathlib.Omega.{arith}
 use borrow.Author.Needs.{needs}
 use lib.ListN.{length}
 use Rattle.octets.specs.Number.{toLe}
+use Rattle.rules.specs.Properties.{propertiesRow}
+use Rattle.rules.specs.Row.{fieldBytes, rowBytes}
 use Rattle.writing.specs.Fixed.{propertiesHead}
 use Rattle.octets.proofs.Laws.Number.{length-toLe}
 use Rattle.octets.proofs.Laws.Over.{written-copied, written-next, written-none}
@@ -49,7 +51,7 @@ same-length : tie.Need-same-length
 same-length c = search needs
 
 returns : tie.Need-returns
-unfolding propertiesHead
+unfolding propertiesHead rowBytes propertiesRow fieldBytes toLe
 returns c =
     let c6 = c .before .before in
     let c5 = c6 .before .before .before .before in

@@ -5,6 +5,8 @@ use mathlib.Core.List.{append-assoc}
 use native.Mathlib.Omega.{arith}
 use borrow.Author.Needs.{needs}
 use Rattle.octets.specs.Number.{toLe}
+use Rattle.rules.specs.Properties.{propertiesRow}
+use Rattle.rules.specs.Row.{fieldBytes, rowBytes}
 use Rattle.writing.specs.Fixed.{propertiesTail}
 use Rattle.octets.proofs.Laws.Number.{length-toLe}
 use Rattle.octets.proofs.Laws.Over.{written-next, written-none}
@@ -42,7 +44,7 @@ same-length : tie.Need-same-length
 same-length c = search needs
 
 returns : tie.Need-returns
-unfolding propertiesTail
+unfolding propertiesTail rowBytes propertiesRow fieldBytes toLe
 returns c =
     let c6 = c .before .before in
     let c5 = c6 .before .before .before .before .before in

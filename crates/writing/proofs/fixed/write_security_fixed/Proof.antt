@@ -5,7 +5,8 @@ use mathlib.Core.List.{append-assoc}
 use native.Mathlib.Omega.{arith}
 use borrow.Author.Needs.{needs}
 use Rattle.octets.specs.Number.{toLe}
-use Rattle.writing.specs.Fixed.{securityRow}
+use Rattle.rules.specs.Row.{fieldBytes, rowBytes}
+use Rattle.rules.specs.Security.{securityRow}
 use Rattle.octets.proofs.Laws.Number.{length-toLe}
 use Rattle.octets.proofs.Laws.Over.{written-next, written-none}
 use Rattle.writing.proofs.fixed.write_security_fixed.Statement.{statement}
@@ -51,7 +52,7 @@ same-length : tie.Need-same-length
 same-length c = omega (arith, c .before .before .before .before .before .before .before .before .before .before .before .before .before .before .before, c .before .before .before .before .before .before .before .before .before .before .before .before .before .before .before .before .before .before .before .before .before .before .before .before .before .before .before .before .before .before .before)
 
 returns : tie.Need-returns
-unfolding securityRow
+unfolding rowBytes securityRow fieldBytes toLe
 returns c =
     let c6 = c .before .before in
     let c5 = c6 .before .before .before .before .before in

@@ -8,7 +8,7 @@ use borrow.Author.Needs.{needs}
 use lib.ListN.{length, length-append}
 use Rattle.octets.specs.Padding.{padded, padding}
 use Rattle.writing.specs.Fixed.{PropertiesSized, propertiesTail}
-use Rattle.writing.specs.Given.{given}
+use Rattle.writing.specs.Given.{fixed, given}
 use Rattle.octets.specs.Over.{over}
 use Rattle.writing.proofs.Laws.Header.{length-propertiesHead, length-propertiesTail, properties-bytes, properties-sized}
 use Rattle.octets.proofs.Laws.Over.{written-first, written-rest, written-zeros}
@@ -115,7 +115,7 @@ returns c d k s c' p =
     let room : 56 + length label + length extension + length body ≤ length (now (a .out)) = omega (arith, h) in
     let parts : length (label ++ (extension ++ body)) ≡ length label + length extension + length body = simp length-append (omega arith) in
     let w1 = written-first (c1 .write-properties-head .ensures) in
-    let w2 = written-rest 32 24 (propertiesTail f) (c2 .write-properties-tail .last .1 .0) w1 (sym l1) (length-propertiesTail f) (omega arith) (c2 .write-properties-tail .ensures) in
+    let w2 = written-rest 32 24 (propertiesTail (fixed f [] 0)) (c2 .write-properties-tail .last .1 .0) w1 (sym l1) (length-propertiesTail f) (omega arith) (c2 .write-properties-tail .ensures) in
     let w3 = written-rest 56 (length label + length extension + length body) (label ++ (extension ++ body)) (c3 .write-properties-parts .last .1 .1 .1 .0) w2 refl parts (omega arith) (c3 .write-properties-parts .ensures) in
     let w4 = written-zeros (56 + length label + length extension + length body) zeros (c4 .zero .last .0) w3 (omega arith) (omega (arith, h, pad .padding .ensures)) (c4 .zero .ensures) in
     w4 .bytes ∙ ap (λ (bs : List ℕ). over bs (now (a .out))) (properties-bytes g f zeros twenty (made .properties-given .ensures (a .correlation-id) d k s c' p) (pad .padding .ensures))

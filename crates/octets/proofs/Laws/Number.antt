@@ -2,7 +2,7 @@
 use Prim.Native.Nat.{ℕ, zero, suc, _+_, _*_, _/_, _%_, _^_, _≤_, _<_}
 use mathlib.Core.Path.{_≡_, refl, ap}
 use mathlib.Core.List.{List, [], _∷_, _++_}
-use native.Mathlib.Nat.{pow-suc, add-zero, add-assoc}
+use native.Mathlib.Nat.{pow-suc, add-zero, zero-add, suc-add, add-assoc, mul-assoc, mul-comm}
 use native.Mathlib.Omega.{arith}
 use lib.ListN.{length, getD, take, drop, List·getD-eq-default}
 use lib.Seq.{getD-drop, getD-append-add, drop-cons}
@@ -17,6 +17,19 @@ le-out (suc w) s at h =
     let r : le w s (suc at) ≡ 0 = le-out w s (suc at) (omega arith) in
     omega arith
 
+next : (at i : ℕ) → suc at + i ≡ at + suc i
+next at i = omega arith
+
+-- a number of v + w bytes is one of v, and one of w behind it
+pub le-add : (v w : ℕ) (s : List ℕ) (at : ℕ) → le (v + w) s at ≡ le v s at + 256 ^ v * le w s (at + v)
+unfolding le
+le-add zero w s at = simp (zero-add, add-zero) (omega arith)
+le-add (suc v) w s at =
+    let r : le (v + w) s (suc at) ≡ le v s (suc at) + 256 ^ v * le w s (suc at + v) = le-add v w s (suc at) in
+    let x = le w s (suc at + v) in
+    let p : 256 ^ suc v * x ≡ 256 * (256 ^ v * x) = rw (pow-suc 256 v, mul-comm (256 ^ v) 256) (mul-assoc 256 (256 ^ v) x) in
+    rw (suc-add v w, ← next at v) (omega arith)
+
 -- a number of w bytes is below 256 ^ w
 pub le-lt : (w : ℕ) (s : List ℕ) (at : ℕ) → ((i : ℕ) → getD s i 0 < 256) → le w s at < 256 ^ w
 unfolding le
@@ -26,9 +39,6 @@ le-lt (suc w) s at b =
     let h : getD s at 0 < 256 = b at in
     let e : 256 ^ suc w ≡ 256 ^ w * 256 = pow-suc 256 w in
     omega arith
-
-next : (at i : ℕ) → suc at + i ≡ at + suc i
-next at i = omega arith
 
 -- equal bytes are equal numbers
 pub le-cong : (w : ℕ) (s t : List ℕ) (at bt : ℕ) → ((i : ℕ) → i < w → getD s (at + i) 0 ≡ getD t (bt + i) 0)

@@ -1,17 +1,16 @@
--- `octets::number::u32_at` meets its contract: a number of four bytes is two of two, and past the end there is nothing.
--- Assumes nothing.
+-- A number of four bytes is two of two, and past the end there is nothing.
 use denote.Ref.{now}
 use mathlib.Core.Path.{sym}
-use native.Mathlib.Numerals.{add-two}
 use native.Mathlib.Omega.{arith}
-use borrow.Author.Needs.{needs}
 use Rattle.octets.specs.Number.{le}
-use Rattle.octets.proofs.Laws.Number.{le-out}
+use Rattle.octets.proofs.Laws.Number.{le-add, le-out}
+use Rattle.octets.proofs.Laws.Steps.{the}
+use borrow.Author.Needs.{needs}
 use Rattle.octets.proofs.number.u32_at.Statement.{statement}
 use Rattle.octets.proofs.number.u32_at.Tie as tie
 
 returns : tie.Need-returns
-returns c = sym (le-out 4 (now (c .before .before .args .s)) (c .before .before .args .at) (c .if1 .taken))
+returns c = let a = the tie.Start (search) .args in sym (le-out 4 (now (a .s)) (a .at .0) (c .if1 .taken))
 
 u16-at-requires : tie.Need-u16-at-requires
 u16-at-requires c κs = search needs
@@ -19,8 +18,8 @@ u16-at-requires c κs = search needs
 cast-low : tie.Need-cast-low
 cast-low c = search needs
 
-add-u16-at : tie.Need-add-u16-at
-add-u16-at c = search needs
+add-t5 : tie.Need-add-t5
+add-t5 c = search needs
 
 u16-at-requires-2 : tie.Need-u16-at-requires-2
 u16-at-requires-2 c κs = search needs
@@ -35,8 +34,7 @@ add-result : tie.Need-add-result
 add-result c = search needs
 
 returns-2 : tie.Need-returns-2
-unfolding le
-returns-2 c = simp (c .before .u16-at .ensures, c .u16-at2 .ensures, add-two) (omega arith)
+returns-2 c = let a = the tie.Start (search) .args in omega (arith, le-add 2 2 (now (a .s)) (a .at .0), the tie.After-u16-at (search) .u16-at .ensures, c .u16-at2 .ensures)
 
 pub u32-at-spec : {M : Type 1} → statement M
 u32-at-spec =
@@ -45,7 +43,7 @@ u32-at-spec =
     returns
     u16-at-requires
     cast-low
-    add-u16-at
+    add-t5
     u16-at-requires-2
     cast-high
     mul-result

@@ -1,9 +1,8 @@
--- `octets::number::u8_at` meets its contract: past the end a list's element is the default, 0.
--- Assumes nothing.
+-- Past the end a list's element is the default, 0.
 use denote.Ref.{now}
 use mathlib.Core.Path.{sym}
-use borrow.Author.Needs.{needs}
 use lib.ListN.{List·getD-eq-default}
+use borrow.Author.Needs.{needs}
 use Rattle.octets.proofs.number.u8_at.Statement.{statement}
 use Rattle.octets.proofs.number.u8_at.Tie as tie
 

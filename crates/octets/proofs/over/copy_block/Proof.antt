@@ -33,8 +33,6 @@ returns c =
     let filled = c .before .before .before .before .before .before .copy .ensures ∙ copied-whole s (replicate 1024 0) (omega (arith, length-replicate {A = ℕ} 1024 0)) in
     c .before .before .copy2 .ensures ∙ ap (λ (x : List ℕ). copied x (now (a .out))) filled ∙ copied-whole s (now (a .out)) (omega arith)
 
-
-
 pub copy-block-spec : {M : Type 1} → statement M
 copy-block-spec =
     tie.close

@@ -2,8 +2,10 @@
 use mathlib.Core.Path.{_≡_}
 use mathlib.Core.List.{List}
 use Prim.Native.Nat.{ℕ}
-use Rattle.rules.specs.Summary.{labelOf, providerNameOf}
-use Rattle.rules.specs.declared.section.Summary.{Summary}
+use lib.ListN.{drop}
+use Rattle.rules.specs.Properties.{propertiesParts}
+use Rattle.rules.specs.Summary.{partOf}
+use Rattle.rules.specs.declared.properties.PropertiesFields.{PropertiesFields}
 use Rattle.rules.specs.declared.security.SecurityHeader.{SecurityHeader}
 
 pub record SameHeader (g h : SecurityHeader) : Type 0 where
@@ -13,6 +15,6 @@ pub record SameHeader (g h : SecurityHeader) : Type 0 where
   pub «provider_type» : g .«provider_type» ≡ h .«provider_type»
 
 -- label and provider name, by content
-pub record SameContents (m n : Summary) (s t : List ℕ) : Type 0 where
-  pub label : labelOf m s ≡ labelOf n t
-  pub «provider_name» : providerNameOf m s ≡ providerNameOf n t
+pub record SameContents (g : SecurityHeader) (p : PropertiesFields) (s : List ℕ) (h : SecurityHeader) (q : PropertiesFields) (t : List ℕ) : Type 0 where
+  pub label : partOf s (propertiesParts (g .parts .length .0) p .label) ≡ partOf t (propertiesParts (h .parts .length .0) q .label)
+  pub «provider_name» : drop 4 (partOf s (g .parts .«provider_info»)) ≡ drop 4 (partOf t (h .parts .«provider_info»))

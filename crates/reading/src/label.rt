@@ -1,7 +1,9 @@
 // The label for display.
-use crate::section::summarize;
-use crate::view::part_of;
-use rules::section::Summarized;
+use crate::properties::label_at;
+use crate::properties::properties_fields;
+use crate::section::judge;
+use crate::section::properties_start;
+use rules::refusal;
 ghost use mathlib.Core.Path.{_≡_};
 ghost use Rattle.rules.specs.Reading.{labelShown};
 
@@ -9,13 +11,13 @@ ghost use Rattle.rules.specs.Reading.{labelShown};
 pub fn label_shown<'a>(s: &'a [u8], security_first: bool, stand_in: &'a [u8]) -> &'a [u8]
     ensures { λ r. ⌜ now r ≡ labelShown «security_first» (now (s .entry)) (now («stand_in» .entry)) ⌝ }
 {
-    match summarize(s, security_first) {
-        Summarized::Refused(_) => stand_in,
-        Summarized::Accepted(m) => {
-            if m.properties.label_length.0 == 0 {
-                return stand_in;
-            }
-            part_of(s, m.parts.label)
-        }
+    if judge(s, security_first).number != refusal::PASSED {
+        return stand_in;
     }
+    let at = properties_start(s, security_first);
+    let fields = properties_fields(s, at);
+    if fields.label_length.0 == 0 {
+        return stand_in;
+    }
+    label_at(s, fields, at)
 }

@@ -1,7 +1,8 @@
 // Reading a section: the steps in 01's order, the summary and the full reading, and what a caller does with them.
+mod field;
 pub mod label;
-mod properties;
+pub mod properties;
 pub mod same;
 pub mod section;
-mod security;
+pub mod security;
 pub mod view;

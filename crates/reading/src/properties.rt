@@ -1,128 +1,126 @@
-// Reading a MessagePropertiesHeader behind a SecurityHeader or none: P1 to P7, and the summary.
+// Reading a MessagePropertiesHeader: its fields, the steps P1 to P7, and its parts.
+use crate::field::u16_in;
+use crate::field::u32_in;
 use octets::count::Bytes;
 use octets::count::Units;
-use octets::number::u8_at;
-use octets::number::u16_at;
-use octets::number::u32_at;
+use octets::padding::padding;
 use octets::part::within;
+use rules::layout::part;
 use rules::properties::PropertiesFields;
-use rules::properties::PropertiesLayout;
 use rules::properties::PropertiesParts;
 use rules::properties::label_contents;
 use rules::properties::properties_steps;
+use rules::properties::section_end;
 use rules::refusal;
-use rules::refusal::Checked;
-use rules::refusal::Refusal;
-use rules::section::Summarized;
-use rules::section::Summary;
-use rules::security::SecurityHeader;
-use rules::verdict::authentication_fails;
-use rules::verdict::decryption_fails;
+use rules::section::LIMIT;
 ghost use mathlib.Core.Path.{_≡_};
-ghost use lib.ListN.{drop};
-ghost use Rattle.rules.specs.Properties.{propertiesFields};
-ghost use Rattle.rules.specs.Reading.{propertiesAfterSteps, readProperties};
-ghost use Rattle.rules.specs.Refusal.{refusal};
-ghost use Rattle.rules.specs.Summary.{summaryOf};
+ghost use mathlib.Core.List.{[]};
+ghost use Prim.Native.Nat.{_≤_};
+ghost use lib.ListN.{length};
+ghost use Rattle.rules.specs.Properties.{propertiesFields, propertiesParts};
+ghost use Rattle.rules.specs.Reading.{propertiesNumber};
+ghost use Rattle.rules.specs.Refusal.{limit};
+ghost use Rattle.rules.specs.Summary.{partOf};
+ghost use Rattle.reading.specs.Fields.{PropertiesSizes, propertiesRead};
 
-fn properties_fields(h: &[u8]) -> PropertiesFields
-    ensures { λ r. ⌜ r ≡ propertiesFields (now (h .entry)) ⌝ }
+fn no_fields() -> PropertiesFields
+    ensures { λ r. ⌜ r ≡ propertiesFields [] ⌝ }
 {
     PropertiesFields {
-        flags: u8_at(h, 0) % 16,
-        label_length: Units(u8_at(h, 1) as u32),
-        message_class: u16_at(h, 2),
-        body_type: u32_at(h, 24),
-        message_size: Bytes(u32_at(h, 32) as usize),
-        allocation_body_size: Bytes(u32_at(h, 36) as usize),
-        privacy_level: u32_at(h, 40),
-        hash_algorithm: u32_at(h, 44),
-        encryption_algorithm: u32_at(h, 48),
-        extension_size: Bytes(u32_at(h, 52) as usize),
+        flags: 0,
+        label_length: Units(0),
+        message_class: 0,
+        body_type: 0,
+        message_size: Bytes(0),
+        allocation_body_size: Bytes(0),
+        privacy_level: 0,
+        hash_algorithm: 0,
+        encryption_algorithm: 0,
+        extension_size: Bytes(0),
     }
 }
 
-fn input_short(place: Bytes) -> Summarized
-    ensures { λ r. ⌜ r ≡ Summarized.Refused (refusal 1 (place .0)) ⌝ }
+// The fixed fields of a header that is there.
+fn fields_of(h: &[u8]) -> PropertiesFields
+    requires { ⌜ 56 ≤ length (now h) ⌝ }
+    ensures { λ r. ⌜ r ≡ propertiesFields (now (h .entry)) ⌝ }
+    ensures { λ r. ⌜ PropertiesSizes r ⌝ }
 {
-    Summarized::Refused(Refusal {
-        number: refusal::INPUT_SHORT,
-        place,
-    })
-}
-
-fn summary(
-    security_first: bool,
-    security: SecurityHeader,
-    properties: PropertiesFields,
-    parts: PropertiesParts,
-) -> Summary
-    ensures { λ r. ⌜ r ≡ summaryOf «security_first» security properties parts ⌝ }
-{
-    let fields = security.fields;
-    Summary {
-        security_first,
-        security,
-        properties,
-        parts,
-        authentication_fails: authentication_fails(fields, properties),
-        decryption_fails: decryption_fails(fields, properties),
+    PropertiesFields {
+        flags: h[0] % 16,
+        label_length: Units(h[1] as u32),
+        message_class: u16_in(h, Bytes(2)),
+        body_type: u32_in(h, Bytes(24)),
+        message_size: Bytes(u32_in(h, Bytes(32)) as usize),
+        allocation_body_size: Bytes(u32_in(h, Bytes(36)) as usize),
+        privacy_level: u32_in(h, Bytes(40)),
+        hash_algorithm: u32_in(h, Bytes(44)),
+        encryption_algorithm: u32_in(h, Bytes(48)),
+        extension_size: Bytes(u32_in(h, Bytes(52)) as usize),
     }
 }
 
-// P6 and P7
-fn read_contents(
-    security_first: bool,
-    s: &[u8],
-    security: SecurityHeader,
-    properties: PropertiesFields,
-    parts: PropertiesParts,
-) -> Summarized
-    requires { ⌜ properties ≡ propertiesFields (drop (security .parts .length .0) (now s)) ⌝ }
-    ensures { λ r. ⌜ r ≡ propertiesAfterSteps «security_first» (now (s .entry)) security (PropertiesLayout.Fits parts) ⌝ }
+// The fixed fields of the header at `at`; all zero where the 56 bytes are not all there.
+pub fn properties_fields(s: &[u8], at: Bytes) -> PropertiesFields
+    ensures { λ r. ⌜ r ≡ propertiesRead (now (s .entry)) (at .0) ⌝ }
+    ensures { λ r. ⌜ PropertiesSizes r ⌝ }
 {
-    let at = security.parts.length;
-    if s.len() < parts.section_length.0 {
-        return input_short(at);
-    }
-    let label = within(s, parts.label.start, parts.label.length);
-    match label_contents(label, at) {
-        Checked::Refused(r) => Summarized::Refused(r),
-        Checked::Passed => Summarized::Accepted(summary(
-            security_first,
-            security,
-            properties,
-            parts,
-        )),
-    }
-}
-
-// P1 to P7
-pub(crate) fn read_properties(
-    security_first: bool,
-    s: &[u8],
-    security: SecurityHeader,
-) -> Summarized
-    ensures { λ r. ⌜ r ≡ readProperties «security_first» (now (s .entry)) security ⌝ }
-{
-    let at = security.parts.length;
     let start = at.0;
     if s.len() < start {
-        return input_short(at);
+        return no_fields();
     }
     let header = &s[start..];
     if header.len() < 56 {
-        return input_short(at);
+        return no_fields();
     }
-    let properties = properties_fields(header);
-    match properties_steps(properties, at) {
-        PropertiesLayout::Refused(r) => Summarized::Refused(r),
-        PropertiesLayout::Fits(parts) => read_contents(
-            security_first,
-            s,
-            security,
-            properties,
-            parts,
-        ),
+    fields_of(header)
+}
+
+pub(crate) fn properties_parts(f: PropertiesFields, at: Bytes) -> PropertiesParts
+    requires { ⌜ PropertiesSizes f ⌝ }
+    requires { ⌜ at .0 ≤ limit ⌝ }
+    ensures { λ r. ⌜ r ≡ propertiesParts (at .0) f ⌝ }
+{
+    let start = at.0;
+    let label = f.label_length.bytes();
+    let extension_at = start + 56 + label.0;
+    let body_at = extension_at + f.extension_size.0;
+    let end = body_at + f.message_size.0;
+    PropertiesParts {
+        label: part(Bytes(start + 56), label),
+        extension: part(Bytes(extension_at), f.extension_size),
+        body: part(Bytes(body_at), f.message_size),
+        section_length: Bytes(end + padding(Bytes(end - start)).0),
     }
+}
+
+// The label of the header at `at`; none where it is not all there.
+pub(crate) fn label_at(s: &[u8], f: PropertiesFields, at: Bytes) -> &[u8]
+    requires { ⌜ at .0 ≤ limit ⌝ }
+    ensures { λ r. ⌜ now r ≡ partOf (now (s .entry)) (propertiesParts (at .0) f .label) ⌝ }
+{
+    within(s, Bytes(at.0 + 56), f.label_length.bytes())
+}
+
+// P1 to P7
+pub(crate) fn properties_number(s: &[u8], at: Bytes) -> u32
+    requires { ⌜ at .0 ≤ limit ⌝ }
+    ensures { λ r. ⌜ r ≡ propertiesNumber (now (s .entry)) (at .0) ⌝ }
+{
+    if s.len() < at.0 + 56 {
+        return refusal::INPUT_SHORT;
+    }
+    let fields = properties_fields(s, at);
+    let number = properties_steps(fields);
+    if number != refusal::PASSED {
+        return number;
+    }
+    let end = section_end(fields, at).0;
+    if LIMIT < end {
+        return refusal::ABOVE_THE_LIMIT;
+    }
+    if s.len() < end {
+        return refusal::INPUT_SHORT;
+    }
+    label_contents(label_at(s, fields, at))
 }

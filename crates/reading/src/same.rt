@@ -1,16 +1,20 @@
 // Whether two inputs have the same summary: what a caller needs to use demand 3.
-use crate::section::summarize;
+use crate::properties::label_at;
+use crate::properties::properties_fields;
+use crate::section::header_at;
+use crate::section::judge;
 use crate::view::part_of;
 use octets::part::same;
 use rules::properties::PropertiesFields;
-use rules::section::Summarized;
-use rules::section::Summary;
+use rules::refusal;
 use rules::security::SecurityFields;
 use rules::security::SecurityHeader;
 ghost use mathlib.Core.Path.{_≡_};
 ghost use mathlib.Core.Bool.{true};
+ghost use Prim.Native.Nat.{_≤_};
 ghost use lib.ListN.{drop};
-ghost use Rattle.rules.specs.Reading.{SameSummary};
+ghost use Rattle.rules.specs.Reading.{SameSummary, judge};
+ghost use Rattle.rules.specs.Refusal.{limit};
 ghost use Rattle.reading.specs.Same.{SameContents, SameHeader};
 
 fn same_security(a: SecurityFields, b: SecurityFields) -> bool
@@ -101,14 +105,49 @@ fn same_header(a: SecurityHeader, b: SecurityHeader) -> bool
     true
 }
 
-fn same_contents(a: &[u8], m: Summary, b: &[u8], n: Summary) -> bool
-    ensures { λ r. ⌜ (r ≡ true → SameContents m n (now (a .entry)) (now (b .entry))) × (SameContents m n (now (a .entry)) (now (b .entry)) → r ≡ true) ⌝ }
+// Label and provider name, by content.
+fn same_contents(
+    a: &[u8],
+    g: SecurityHeader,
+    p: PropertiesFields,
+    b: &[u8],
+    h: SecurityHeader,
+    q: PropertiesFields,
+) -> bool
+    requires { ⌜ g .parts .length .0 ≤ limit ⌝ }
+    requires { ⌜ h .parts .length .0 ≤ limit ⌝ }
+    ensures { λ r. ⌜ (r ≡ true → SameContents g p (now (a .entry)) h q (now (b .entry))) × (SameContents g p (now (a .entry)) h q (now (b .entry)) → r ≡ true) ⌝ }
 {
-    if !same(part_of(a, m.parts.label), part_of(b, n.parts.label)) {
+    if !same(
+        label_at(a, p, g.parts.length),
+        label_at(b, q, h.parts.length),
+    ) {
         return false;
     }
-    let name = name_of(part_of(a, m.security.parts.provider_info));
-    if !same(name, name_of(part_of(b, n.security.parts.provider_info))) {
+    let name = name_of(part_of(a, g.parts.provider_info));
+    if !same(name, name_of(part_of(b, h.parts.provider_info))) {
+        return false;
+    }
+    true
+}
+
+// The summaries of two sections that passed every step.
+fn same_accepted(a: &[u8], b: &[u8], security_first: bool) -> bool
+    requires { ⌜ judge «security_first» (now a) .number ≡ 0 ⌝ }
+    requires { ⌜ judge «security_first» (now b) .number ≡ 0 ⌝ }
+    ensures { λ r. ⌜ (r ≡ true → SameSummary «security_first» (now (a .entry)) (now (b .entry))) × (SameSummary «security_first» (now (a .entry)) (now (b .entry)) → r ≡ true) ⌝ }
+{
+    let g = header_at(a, security_first);
+    let h = header_at(b, security_first);
+    if !same_header(g, h) {
+        return false;
+    }
+    let p = properties_fields(a, g.parts.length);
+    let q = properties_fields(b, h.parts.length);
+    if !same_properties(p, q) {
+        return false;
+    }
+    if !same_contents(a, g, p, b, h, q) {
         return false;
     }
     true
@@ -119,20 +158,11 @@ fn same_contents(a: &[u8], m: Summary, b: &[u8], n: Summary) -> bool
 pub fn same_summary(a: &[u8], b: &[u8], security_first: bool) -> bool
     ensures { λ r. ⌜ (r ≡ true → SameSummary «security_first» (now (a .entry)) (now (b .entry))) × (SameSummary «security_first» (now (a .entry)) (now (b .entry)) → r ≡ true) ⌝ }
 {
-    let Summarized::Accepted(m) = summarize(a, security_first) else {
-        return false;
-    };
-    let Summarized::Accepted(n) = summarize(b, security_first) else {
-        return false;
-    };
-    if !same_header(m.security, n.security) {
+    if judge(a, security_first).number != refusal::PASSED {
         return false;
     }
-    if !same_properties(m.properties, n.properties) {
+    if judge(b, security_first).number != refusal::PASSED {
         return false;
     }
-    if !same_contents(a, m, b, n) {
-        return false;
-    }
-    true
+    same_accepted(a, b, security_first)
 }

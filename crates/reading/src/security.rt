@@ -1,92 +1,180 @@
-// Reading a SecurityHeader at the input's first byte: S1 to S11.
+// Reading a SecurityHeader at the input's first byte: its fields, the steps S1 to S11, and the header that passed them.
+use crate::field::u16_in;
+use crate::field::u32_in;
 use octets::count::Bytes;
-use octets::number::u8_at;
-use octets::number::u16_at;
-use octets::number::u32_at;
+use octets::padding::padding;
 use octets::part::within;
+use rules::layout::part;
 use rules::refusal;
-use rules::refusal::Checked;
-use rules::refusal::Refusal;
+use rules::section::LIMIT;
+use rules::section::Part;
+use rules::security::AU;
 use rules::security::SecurityFields;
 use rules::security::SecurityHeader;
-use rules::security::SecurityLayout;
 use rules::security::SecurityParts;
-use rules::security::SecurityRead;
 use rules::security::security_contents;
+use rules::security::security_length;
 use rules::security::security_steps;
 ghost use mathlib.Core.Path.{_≡_};
-ghost use mathlib.Core.Bool.{cond};
-ghost use Prim.Native.Nat.{_%_};
-ghost use lib.ListN.{getD};
+ghost use mathlib.Core.Bool.{true, cond};
+ghost use Prim.Native.Nat.{_+_, _%_, _^_, _≤_, _<_};
+ghost use lib.ListN.{length};
 ghost use lib.Dec.{eqb};
-ghost use Rattle.rules.specs.Reading.{readSecurity, securityAfterSteps};
-ghost use Rattle.rules.specs.Refusal.{refusal};
-ghost use Rattle.rules.specs.Security.{securityFields};
+ghost use Rattle.octets.specs.Number.{le};
+ghost use Rattle.octets.specs.Padding.{padded};
+ghost use Rattle.rules.specs.Reading.{headerAt, judge, securityNumber};
+ghost use Rattle.rules.specs.Security.{securityContents, securityParts};
+ghost use Rattle.rules.specs.Summary.{noSecurity, partOf};
+ghost use Rattle.reading.specs.Fields.{SecuritySizes, securityRead};
 
-fn security_fields(s: &[u8]) -> SecurityFields
-    ensures { λ r. ⌜ r ≡ securityFields (now (s .entry)) ⌝ }
+fn no_fields() -> SecurityFields
+    ensures { λ r. ⌜ r ≡ noSecurity .fields ⌝ }
 {
     SecurityFields {
-        flags: (u16_at(s, 0) % 4096) as u32,
-        sender_id_size: Bytes(u16_at(s, 2) as usize),
-        encryption_key_size: Bytes(u16_at(s, 4) as usize),
-        signature_size: Bytes(u16_at(s, 6) as usize),
-        sender_cert_size: Bytes(u32_at(s, 8) as usize),
-        provider_info_size: Bytes(u32_at(s, 12) as usize),
+        flags: 0,
+        sender_id_size: Bytes(0),
+        encryption_key_size: Bytes(0),
+        signature_size: Bytes(0),
+        sender_cert_size: Bytes(0),
+        provider_info_size: Bytes(0),
     }
 }
 
-// A byte of the identity for ST 1, else 0.
-fn sid_byte(flags: u32, identity: &[u8], at: usize) -> u8
-    ensures { λ r. ⌜ r ≡ cond (eqb (flags % 16) 1) (getD (now (identity .entry)) at 0) 0 ⌝ }
+// Where no SecurityHeader stands first: every number is 0.
+pub(crate) fn no_security() -> SecurityHeader
+    ensures { λ r. ⌜ r ≡ noSecurity ⌝ }
 {
-    if flags % 16 == 1 {
-        return u8_at(identity, at);
+    let none = part(Bytes(0), Bytes(0));
+    SecurityHeader {
+        fields: no_fields(),
+        parts: SecurityParts {
+            sender_id: none,
+            encryption_key: none,
+            signature: none,
+            sender_cert: none,
+            provider_info: none,
+            length: Bytes(0),
+        },
+        sid_revision: 0,
+        sid_sub_authority_count: 0,
+        provider_type: 0,
+    }
+}
+
+// The fixed fields; all zero where the 16 bytes are not all there.
+pub fn security_fields(s: &[u8]) -> SecurityFields
+    ensures { λ r. ⌜ r ≡ securityRead (now (s .entry)) ⌝ }
+    ensures { λ r. ⌜ SecuritySizes r ⌝ }
+{
+    if s.len() < 16 {
+        return no_fields();
+    }
+    SecurityFields {
+        flags: (u16_in(s, Bytes(0)) % 4096) as u32,
+        sender_id_size: Bytes(u16_in(s, Bytes(2)) as usize),
+        encryption_key_size: Bytes(u16_in(s, Bytes(4)) as usize),
+        signature_size: Bytes(u16_in(s, Bytes(6)) as usize),
+        sender_cert_size: Bytes(u32_in(s, Bytes(8)) as usize),
+        provider_info_size: Bytes(u32_in(s, Bytes(12)) as usize),
+    }
+}
+
+// Where a part of `size` bytes from `start` ends, with its padding.
+fn behind(start: Bytes, size: Bytes) -> Bytes
+    requires { ⌜ start .0 < 2 ^ 40 ⌝ }
+    requires { ⌜ size .0 < 2 ^ 32 ⌝ }
+    ensures { λ r. ⌜ r .0 ≡ start .0 + padded 4 (size .0) ⌝ }
+    ensures { λ r. ⌜ r .0 < start .0 + size .0 + 4 ⌝ }
+{
+    Bytes(start.0 + size.0 + padding(size).0)
+}
+
+fn security_parts(f: SecurityFields) -> SecurityParts
+    requires { ⌜ SecuritySizes f ⌝ }
+    ensures { λ r. ⌜ r ≡ securityParts f ⌝ }
+{
+    let key_at = behind(Bytes(16), f.sender_id_size);
+    let signature_at = behind(key_at, f.encryption_key_size);
+    let cert_at = behind(signature_at, f.signature_size);
+    let provider_at = behind(cert_at, f.sender_cert_size);
+    let length = behind(provider_at, f.provider_info_size);
+    SecurityParts {
+        sender_id: part(Bytes(16), f.sender_id_size),
+        encryption_key: part(key_at, f.encryption_key_size),
+        signature: part(signature_at, f.signature_size),
+        sender_cert: part(cert_at, f.sender_cert_size),
+        provider_info: part(provider_at, f.provider_info_size),
+        length,
+    }
+}
+
+// S10 and S11
+fn contents_number(s: &[u8], f: SecurityFields) -> u32
+    requires { ⌜ SecuritySizes f ⌝ }
+    ensures { λ r. ⌜ r ≡ securityContents f (partOf (now (s .entry)) (securityParts f .«sender_id»)) (partOf (now (s .entry)) (securityParts f .«provider_info»)) ⌝ }
+{
+    let parts = security_parts(f);
+    let identity = within(s, parts.sender_id.start, parts.sender_id.length);
+    let info = within(s, parts.provider_info.start, parts.provider_info.length);
+    security_contents(f, identity, info)
+}
+
+// S1 to S11
+pub(crate) fn security_number(s: &[u8]) -> u32
+    ensures { λ r. ⌜ r ≡ securityNumber true (now (s .entry)) ⌝ }
+{
+    if s.len() < 16 {
+        return refusal::INPUT_SHORT;
+    }
+    let fields = security_fields(s);
+    let number = security_steps(fields);
+    if number != refusal::PASSED {
+        return number;
+    }
+    let length = security_length(fields).0;
+    if LIMIT < length {
+        return refusal::ABOVE_THE_LIMIT;
+    }
+    if s.len() < length {
+        return refusal::INPUT_SHORT;
+    }
+    contents_number(s, fields)
+}
+
+// A byte of the identity for ST 1, else 0.
+fn sid_byte(flags: u32, byte: u8) -> u8
+    ensures { λ r. ⌜ r ≡ cond (eqb (flags % 16) 1) byte 0 ⌝ }
+{
+    if flags % AU == 1 {
+        return byte;
     }
     0
 }
 
-fn input_short() -> SecurityRead
-    ensures { λ r. ⌜ r ≡ SecurityRead.Refused (refusal 1 0) ⌝ }
+// The type at the front of the provider info, 0 where there is none.
+fn provider_type(s: &[u8], info: Part) -> u32
+    requires { ⌜ info .start .0 + 4 ≤ length (now s) ⌝ }
+    ensures { λ r. ⌜ r ≡ cond (eqb (info .length .0) 0) 0 (le 4 (now (s .entry)) (info .start .0)) ⌝ }
 {
-    SecurityRead::Refused(Refusal {
-        number: refusal::INPUT_SHORT,
-        place: Bytes(0),
-    })
+    if info.length.0 == 0 {
+        return 0;
+    }
+    u32_in(s, info.start)
 }
 
-// S9 to S11
-fn read_contents(s: &[u8], fields: SecurityFields, parts: SecurityParts) -> SecurityRead
-    requires { ⌜ fields ≡ securityFields (now s) ⌝ }
-    ensures { λ r. ⌜ r ≡ securityAfterSteps (now (s .entry)) (SecurityLayout.Fits parts) ⌝ }
+// The header of a section that passed every step: identity and provider info are then in the input.
+pub(crate) fn security_header(s: &[u8]) -> SecurityHeader
+    requires { ⌜ judge true (now s) .number ≡ 0 ⌝ }
+    ensures { λ r. ⌜ r ≡ headerAt true (now (s .entry)) ⌝ }
 {
-    if s.len() < parts.length.0 {
-        return input_short();
-    }
-    let identity = within(s, parts.sender_id.start, parts.sender_id.length);
-    let info = within(s, parts.provider_info.start, parts.provider_info.length);
-    match security_contents(fields, identity, info, Bytes(0)) {
-        Checked::Refused(r) => SecurityRead::Refused(r),
-        Checked::Passed => SecurityRead::Header(SecurityHeader {
-            fields,
-            parts,
-            sid_revision: sid_byte(fields.flags, identity, 0),
-            sid_sub_authority_count: sid_byte(fields.flags, identity, 1),
-            provider_type: u32_at(info, 0),
-        }),
-    }
-}
-
-// S1 to S11
-pub(crate) fn read_security(s: &[u8]) -> SecurityRead
-    ensures { λ r. ⌜ r ≡ readSecurity (now (s .entry)) ⌝ }
-{
-    if s.len() < 16 {
-        return input_short();
-    }
     let fields = security_fields(s);
-    match security_steps(fields, Bytes(0)) {
-        SecurityLayout::Refused(r) => SecurityRead::Refused(r),
-        SecurityLayout::Fits(parts) => read_contents(s, fields, parts),
+    let parts = security_parts(fields);
+    let info = parts.provider_info;
+    SecurityHeader {
+        fields,
+        parts,
+        sid_revision: sid_byte(fields.flags, s[16]),
+        sid_sub_authority_count: sid_byte(fields.flags, s[17]),
+        provider_type: provider_type(s, info),
     }
 }

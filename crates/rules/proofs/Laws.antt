@@ -1,5 +1,4 @@
 pub mod Accepted
-pub mod At
 pub mod Bits
 pub mod Judged
 pub mod Layout

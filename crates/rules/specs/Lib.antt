@@ -1,5 +1,6 @@
 pub mod Examples
 pub mod Judged
+pub mod Layout
 pub mod Listed
 pub mod Properties
 pub mod Reading

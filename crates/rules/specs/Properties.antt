@@ -8,15 +8,11 @@ use Rattle.octets.specs.Number.{le}
 use Rattle.octets.specs.Padding.{padded}
 use Rattle.octets.specs.Text.{isText}
 use Rattle.rules.specs.Listed.{listed, classes}
-use Rattle.rules.specs.Refusal.{bytes, refusal, limit}
+use Rattle.rules.specs.Refusal.{bytes, firstOf, limit}
 use Rattle.rules.specs.Row.{Field, number, low, private}
 use Rattle.rules.specs.Security.{part}
-use Rattle.rules.specs.declared.refusal.Checked.{Checked}
-use Rattle.rules.specs.declared.refusal.Checked.the-variants.{Passed, Refused as Checked·Refused}
 use Rattle.rules.specs.declared.properties.PropertiesFields.{PropertiesFields}
 use Rattle.rules.specs.declared.properties.PropertiesParts.{PropertiesParts}
-use Rattle.rules.specs.declared.properties.PropertiesLayout.{PropertiesLayout}
-use Rattle.rules.specs.declared.properties.PropertiesLayout.the-variants.{Fits, Refused}
 
 -- "56 fixed bytes: Flags 0 (1: PA, PR, NA, NR, four X bits), LabelLength 1 (1), MessageClass 2 (2), CorrelationID 4 (20), BodyType 24, ApplicationTag 28, MessageSize 32, AllocationBodySize 36, PrivacyLevel 40, HashAlgorithm 44, EncryptionAlgorithm 48, ExtensionSize 52 (4 each)"
 unfoldable pub propertiesFields : List ℕ → PropertiesFields
@@ -80,17 +76,26 @@ propertiesParts p f =
       «section_length» = bytes (p + propertiesLength f);
     }
 
-unfoldable pub propertiesSteps : PropertiesFields → ℕ → PropertiesLayout
-propertiesSteps f p =
-    cond (ltb 250 (f .«label_length» .0)) (Refused (refusal 9 p))  -- P2
-    (cond (not (listed classes (f .«message_class»))) (Refused (refusal 10 p))  -- P3
-    (cond (ltb (f .«allocation_body_size» .0) (f .«message_size» .0) || ltb limit (f .«allocation_body_size» .0)) (Refused (refusal 11 p))  -- P4
-    (cond (ltb limit (p + propertiesLength f)) (Refused (refusal 8 p))  -- P5
-    (Fits (propertiesParts p f)))))
+-- P2 to P4, on the fixed bytes
+unfoldable pub propertiesSteps : PropertiesFields → ℕ
+propertiesSteps f =
+    cond (ltb 250 (f .«label_length» .0)) 9  -- P2
+    (cond (not (listed classes (f .«message_class»))) 10  -- P3
+    (cond (ltb (f .«allocation_body_size» .0) (f .«message_size» .0) || ltb limit (f .«allocation_body_size» .0)) 11  -- P4
+    0))
 
 -- P7: "in a label, if any, only the last unit is zero"
 unfoldable pub labelText : List ℕ → Bool
 labelText label = eqb (length label) 0 || isText label
 
-unfoldable pub labelContents : List ℕ → ℕ → Checked
-labelContents label p = cond (not (labelText label)) (Checked·Refused (refusal 12 p)) Passed  -- P7
+unfoldable pub labelContents : List ℕ → ℕ
+labelContents label = cond (not (labelText label)) 12 0  -- P7
+
+-- P1 to P7, for a header at p in an input of n bytes
+unfoldable pub readProperties : ℕ → ℕ → PropertiesFields → List ℕ → ℕ
+readProperties n p f label =
+    cond (ltb n (p + 56)) 1  -- P1
+    (firstOf (propertiesSteps f)
+    (cond (ltb limit (p + propertiesLength f)) 8  -- P5
+    (cond (ltb n (p + propertiesLength f)) 1  -- P6
+    (labelContents label))))

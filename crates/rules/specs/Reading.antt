@@ -1,32 +1,26 @@
 -- 01, "Reading, step by step". The first step that fails gives the refusal; its place is the offset of the header being read.
 use Prim.Native.Nat.{ℕ}
 use mathlib.Core.Path.{_≡_}
-use mathlib.Core.Bool.{Bool, true, false, cond}
+use mathlib.Core.Bool.{Bool, cond}
 use mathlib.Core.List.{List}
 use lib.ListN.{length, getD, drop}
-use lib.Dec.{eqb, ltb}
+use lib.Dec.{eqb}
 use Rattle.octets.specs.Number.{le}
-use Rattle.rules.specs.Properties.{propertiesFields, propertiesSteps, labelContents}
+use Rattle.rules.specs.Properties.{propertiesFields, propertiesParts, readProperties}
 use Rattle.rules.specs.Refusal.{refusal}
-use Rattle.rules.specs.Security.{ST, securityFields, securitySteps, securityContents}
+use Rattle.rules.specs.Security.{ST, securityFields, securityParts, readSecurity}
 use Rattle.rules.specs.Summary.{partOf, noSecurity, summaryOf, labelOf, providerNameOf, sectionOf}
-use Rattle.rules.specs.declared.refusal.Checked.{Checked}
-use Rattle.rules.specs.declared.refusal.Checked.the-variants.{Passed, Refused as Checked·Refused}
-use Rattle.rules.specs.declared.properties.PropertiesLayout.{PropertiesLayout}
-use Rattle.rules.specs.declared.properties.PropertiesLayout.the-variants.{Fits as Properties·Fits, Refused as Properties·Refused}
-use Rattle.rules.specs.declared.properties.PropertiesParts.{PropertiesParts}
+use Rattle.rules.specs.declared.properties.PropertiesFields.{PropertiesFields}
+use Rattle.rules.specs.declared.refusal.Refusal.{Refusal}
 use Rattle.rules.specs.declared.section.Reading.{Reading}
 use Rattle.rules.specs.declared.section.Reading.the-variants.{Accepted as Reading·Accepted, Refused as Reading·Refused}
 use Rattle.rules.specs.declared.section.Summarized.{Summarized}
 use Rattle.rules.specs.declared.section.Summarized.the-variants.{Accepted, Refused}
 use Rattle.rules.specs.declared.section.Summary.{Summary}
 use Rattle.rules.specs.declared.security.SecurityHeader.{SecurityHeader}
-use Rattle.rules.specs.declared.security.SecurityLayout.{SecurityLayout}
-use Rattle.rules.specs.declared.security.SecurityLayout.the-variants.{Fits, Refused as Layout·Refused}
 use Rattle.rules.specs.declared.security.SecurityParts.{SecurityParts}
-use Rattle.rules.specs.declared.security.SecurityRead.{SecurityRead}
-use Rattle.rules.specs.declared.security.SecurityRead.the-variants.{Header, Refused as Security·Refused}
 
+-- the SecurityHeader at the input's first byte, its parts where they lie
 unfoldable pub securityHeader : List ℕ → SecurityParts → SecurityHeader
 securityHeader s parts =
     record {
@@ -37,55 +31,42 @@ securityHeader s parts =
       «provider_type» = le 4 (partOf s (parts .«provider_info»)) 0;
     }
 
--- after S10 and S11
-unfoldable pub securityAfterContents : List ℕ → SecurityParts → Checked → SecurityRead
-securityAfterContents s parts Passed = Header (securityHeader s parts)
-securityAfterContents s parts (Checked·Refused r) = Security·Refused r
-
--- after S2 to S8
-unfoldable pub securityAfterSteps : List ℕ → SecurityLayout → SecurityRead
-securityAfterSteps s (Fits parts) =
-    cond (ltb (length s) (parts .length .0)) (Security·Refused (refusal 1 0))  -- S9
-    (securityAfterContents s parts
-    (securityContents (securityFields s) (partOf s (parts .«sender_id»)) (partOf s (parts .«provider_info»)) 0))
-securityAfterSteps s (Layout·Refused r) = Security·Refused r
-
-unfoldable pub readSecurity : List ℕ → SecurityRead
-readSecurity s =
-    cond (ltb (length s) 16) (Security·Refused (refusal 1 0))  -- S1
-    (securityAfterSteps s (securitySteps (securityFields s) 0))
-
--- after P7
-unfoldable pub propertiesAfterContents : Bool → List ℕ → SecurityHeader → PropertiesParts → Checked → Summarized
-propertiesAfterContents first s h parts Passed =
-    Accepted (summaryOf first h (propertiesFields (drop (h .parts .length .0) s)) parts)
-propertiesAfterContents first s h parts (Checked·Refused r) = Refused r
-
--- after P2 to P5
-unfoldable pub propertiesAfterSteps : Bool → List ℕ → SecurityHeader → PropertiesLayout → Summarized
-propertiesAfterSteps first s h (Properties·Fits parts) =
-    cond (ltb (length s) (parts .«section_length» .0)) (Refused (refusal 1 (h .parts .length .0)))  -- P6
-    (propertiesAfterContents first s h parts (labelContents (partOf s (parts .label)) (h .parts .length .0)))
-propertiesAfterSteps first s h (Properties·Refused r) = Refused r
-
-unfoldable pub readProperties : Bool → List ℕ → SecurityHeader → Summarized
-readProperties first s h =
-    cond (ltb (length (drop (h .parts .length .0) s)) 56) (Refused (refusal 1 (h .parts .length .0)))  -- P1
-    (propertiesAfterSteps first s h
-    (propertiesSteps (propertiesFields (drop (h .parts .length .0) s)) (h .parts .length .0)))
-
 -- the SecurityHeader, where `first` says that one stands first
-unfoldable pub securityAt : Bool → List ℕ → SecurityRead
-securityAt true s = readSecurity s
-securityAt false s = Header noSecurity
+unfoldable pub headerAt : Bool → List ℕ → SecurityHeader
+headerAt first s = cond first (securityHeader s (securityParts (securityFields s))) noSecurity
 
-unfoldable pub afterSecurity : Bool → List ℕ → SecurityRead → Summarized
-afterSecurity first s (Header h) = readProperties first s h
-afterSecurity first s (Security·Refused r) = Refused r
+-- where the MessagePropertiesHeader begins, 01's p, and its fields
+unfoldable pub startAt : Bool → List ℕ → ℕ
+startAt first s = headerAt first s .parts .length .0
+
+unfoldable pub fieldsAt : Bool → List ℕ → PropertiesFields
+fieldsAt first s = propertiesFields (drop (startAt first s) s)
+
+-- the summary of what the input holds
+unfoldable pub summaryAt : Bool → List ℕ → Summary
+summaryAt first s = summaryOf first (headerAt first s) (fieldsAt first s) (propertiesParts (startAt first s) (fieldsAt first s))
+
+-- S1 to S11, where a SecurityHeader stands first
+unfoldable pub securityNumber : Bool → List ℕ → ℕ
+securityNumber first s =
+    cond first
+    (readSecurity (length s) (securityFields s)
+    (partOf s (securityParts (securityFields s) .«sender_id»)) (partOf s (securityParts (securityFields s) .«provider_info»)))
+    0
+
+-- P1 to P7, for a header at p
+unfoldable pub propertiesNumber : List ℕ → ℕ → ℕ
+propertiesNumber s p =
+    readProperties (length s) p (propertiesFields (drop p s)) (partOf s (propertiesParts p (propertiesFields (drop p s)) .label))
+
+-- the refusal; its number is 0 where no step fails
+unfoldable pub judge : Bool → List ℕ → Refusal
+judge first s =
+    cond (eqb (securityNumber first s) 0) (refusal (propertiesNumber s (startAt first s)) (startAt first s)) (refusal (securityNumber first s) 0)
 
 -- the summary, or the refusal
 unfoldable pub summarize : Bool → List ℕ → Summarized
-summarize first s = afterSecurity first s (securityAt first s)
+summarize first s = cond (eqb (judge first s .number) 0) (Accepted (summaryAt first s)) (Refused (judge first s))
 
 unfoldable pub fullReading : List ℕ → Summarized → Reading
 fullReading s (Accepted m) = Reading·Accepted (sectionOf m s)

@@ -7,15 +7,11 @@ use lib.Dec.{eqb, ltb, leb}
 use Rattle.octets.specs.Number.{le}
 use Rattle.octets.specs.Padding.{padded}
 use Rattle.octets.specs.Text.{isText}
-use Rattle.rules.specs.Refusal.{bytes, refusal, limit}
+use Rattle.rules.specs.Refusal.{bytes, firstOf, limit}
 use Rattle.rules.specs.Row.{Field, number, low}
-use Rattle.rules.specs.declared.refusal.Checked.{Checked}
-use Rattle.rules.specs.declared.refusal.Checked.the-variants.{Passed, Refused as Checked·Refused}
 use Rattle.rules.specs.declared.section.Part.{Part}
 use Rattle.rules.specs.declared.security.SecurityFields.{SecurityFields}
 use Rattle.rules.specs.declared.security.SecurityParts.{SecurityParts}
-use Rattle.rules.specs.declared.security.SecurityLayout.{SecurityLayout}
-use Rattle.rules.specs.declared.security.SecurityLayout.the-variants.{Fits, Refused}
 
 abbrev pub part : ℕ → ℕ → Part
 part start length = record { start = bytes start; length = bytes length }
@@ -112,22 +108,16 @@ providerSize de signature n =
     (cond (ltb 0 signature) (eqb (n % 2) 0 && leb 8 n)
     (eqb n 0 || (eqb (n % 2) 0 && leb 6 n)))
 
--- S5 to S8: the sizes
-unfoldable pub sizeSteps : SecurityFields → ℕ → SecurityLayout
-sizeSteps f at =
-    cond (ltb 65535 (f .«sender_cert_size» .0)) (Refused (refusal 5 at))  -- S5
-    (cond (not (identitySize (ST f) (f .«sender_id_size» .0))) (Refused (refusal 6 at))  -- S6
-    (cond (not (providerSize (DE f) (f .«signature_size» .0) (f .«provider_info_size» .0))) (Refused (refusal 7 at))  -- S7
-    (cond (ltb limit (securityLength f)) (Refused (refusal 8 at))  -- S8
-    (Fits (securityParts f)))))
-
--- S2 to S4: the flags; then the sizes
-unfoldable pub securitySteps : SecurityFields → ℕ → SecurityLayout
-securitySteps f at =
-    cond (ltb 2 (ST f)) (Refused (refusal 2 at))  -- S2
-    (cond (not (eqb (AU f) 0) || not (eqb (AS f) 0)) (Refused (refusal 3 at))  -- S3
-    (cond (allEmpty f || eqb (DP f) 0) (Refused (refusal 4 at))  -- S4
-    (sizeSteps f at)))
+-- S2 to S7, on the fixed bytes
+unfoldable pub securitySteps : SecurityFields → ℕ
+securitySteps f =
+    cond (ltb 2 (ST f)) 2  -- S2
+    (cond (not (eqb (AU f) 0) || not (eqb (AS f) 0)) 3  -- S3
+    (cond (allEmpty f || eqb (DP f) 0) 4  -- S4
+    (cond (ltb 65535 (f .«sender_cert_size» .0)) 5  -- S5
+    (cond (not (identitySize (ST f) (f .«sender_id_size» .0))) 6  -- S6
+    (cond (not (providerSize (DE f) (f .«signature_size» .0) (f .«provider_info_size» .0))) 7  -- S7
+    0)))))
 
 -- S10: "ST 1: first identity byte is 1 and the second is k (MS-DTYP 2.4.2.2)"
 unfoldable pub identityHead : SecurityFields → List ℕ → Bool
@@ -138,8 +128,17 @@ identityHead f identity =
 unfoldable pub providerText : List ℕ → Bool
 providerText info = eqb (length info) 0 || isText (drop 4 info)
 
-unfoldable pub securityContents : SecurityFields → List ℕ → List ℕ → ℕ → Checked
-securityContents f identity info at =
-    cond (not (identityHead f identity)) (Checked·Refused (refusal 6 at))  -- S10
-    (cond (not (providerText info)) (Checked·Refused (refusal 7 at))  -- S11
-    Passed)
+unfoldable pub securityContents : SecurityFields → List ℕ → List ℕ → ℕ
+securityContents f identity info =
+    cond (not (identityHead f identity)) 6  -- S10
+    (cond (not (providerText info)) 7  -- S11
+    0)
+
+-- S1 to S11, in an input of n bytes
+unfoldable pub readSecurity : ℕ → SecurityFields → List ℕ → List ℕ → ℕ
+readSecurity n f identity info =
+    cond (ltb n 16) 1  -- S1
+    (firstOf (securitySteps f)
+    (cond (ltb limit (securityLength f)) 8  -- S8
+    (cond (ltb n (securityLength f)) 1  -- S9
+    (securityContents f identity info))))

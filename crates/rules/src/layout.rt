@@ -3,24 +3,30 @@ use crate::section::Part;
 use octets::count::Bytes;
 use octets::padding::padding;
 ghost use mathlib.Core.Path.{_≡_};
-ghost use Prim.Native.Nat.{_+_, _<_, _^_};
+ghost use Prim.Native.Nat.{_+_, _<_, _^_, max};
 ghost use Rattle.octets.specs.Padding.{padded};
 ghost use Rattle.rules.specs.Security.{part};
 
 // A size with its padding.
-pub(crate) fn padded(size: usize) -> usize
-    requires { ⌜ size < 2 ^ 32 ⌝ }
-    ensures { λ r. ⌜ r ≡ padded 4 size ⌝ }
-    ensures { λ r. ⌜ r < size + 4 ⌝ }
+pub(crate) fn padded(size: Bytes) -> Bytes
+    requires { ⌜ size .0 < 2 ^ 32 ⌝ }
+    ensures { λ r. ⌜ r .0 ≡ padded 4 (size .0) ⌝ }
+    ensures { λ r. ⌜ r .0 < size .0 + 4 ⌝ }
 {
-    size + padding(Bytes(size)).0
+    Bytes(size.0 + padding(size).0)
 }
 
-pub fn part(start: usize, length: usize) -> Part
-    ensures { λ r. ⌜ r ≡ part start length ⌝ }
+pub(crate) fn larger(a: Bytes, b: Bytes) -> Bytes
+    ensures { λ r. ⌜ r .0 ≡ max (a .0) (b .0) ⌝ }
 {
-    Part {
-        start: Bytes(start),
-        length: Bytes(length),
+    if a.0 < b.0 {
+        return b;
     }
+    a
+}
+
+pub fn part(start: Bytes, length: Bytes) -> Part
+    ensures { λ r. ⌜ r ≡ part (start .0) (length .0) ⌝ }
+{
+    Part { start, length }
 }

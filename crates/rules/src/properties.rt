@@ -1,21 +1,20 @@
-// MessagePropertiesHeader: its fields, its parts, and the steps P2 to P5 and P7.
+// MessagePropertiesHeader: its fields, its parts, where the section ends, and the steps P2 to P4 and P7.
 use crate::class::is_listed;
+use crate::layout::larger;
 use crate::layout::padded;
-use crate::layout::part;
 use crate::refusal;
-use crate::refusal::Checked;
-use crate::refusal::Refusal;
 use crate::section::LIMIT;
 use crate::section::Part;
 use octets::count::Bytes;
 use octets::count::Units;
 use octets::text::is_text;
 ghost use mathlib.Core.Path.{_≡_};
-ghost use mathlib.Core.Bool.{cond};
-ghost use Prim.Native.Nat.{_+_};
-ghost use lib.Dec.{ltb};
-ghost use Rattle.rules.specs.Properties.{labelContents, propertiesLength, propertiesParts, propertiesSteps};
-ghost use Rattle.rules.specs.Refusal.{refusal, limit};
+ghost use Prim.Native.Nat.{_+_, min};
+ghost use Rattle.rules.specs.Properties.{labelContents, propertiesLength, propertiesSteps};
+ghost use Rattle.rules.specs.Refusal.{limit};
+
+// P2: a label has at most so many units.
+pub const LABEL_UNITS: u32 = 250;
 
 // The judged fields of the 56 fixed bytes. Of Flags the low four bits: the four X bits are private.
 #[repr(C)]
@@ -41,85 +40,52 @@ pub struct PropertiesParts {
     pub section_length: Bytes,
 }
 
-// What the steps on the fixed fields find: the layout, or the refusal.
-pub enum PropertiesLayout {
-    Fits(PropertiesParts),
-    Refused(Refusal),
-}
-
-fn refused(number: u32, place: Bytes) -> PropertiesLayout
-    ensures { λ r. ⌜ r ≡ PropertiesLayout.Refused (refusal number (place .0)) ⌝ }
+// P2 to P4
+pub fn properties_steps(f: PropertiesFields) -> u32
+    ensures { λ r. ⌜ r ≡ propertiesSteps f ⌝ }
 {
-    PropertiesLayout::Refused(Refusal { number, place })
-}
-
-// P5. An offset or a size above the limit decides by itself, so that no sum wraps.
-pub fn layout_within(f: PropertiesFields, at: Bytes) -> PropertiesLayout
-    ensures { λ r. ⌜ r ≡ cond (ltb limit (at .0 + propertiesLength f)) (PropertiesLayout.Refused (refusal 8 (at .0))) (PropertiesLayout.Fits (propertiesParts (at .0) f)) ⌝ }
-{
-    let start = at.0;
-    let label = f.label_length.bytes().0;
-    let extension = f.extension_size.0;
-    let body = f.message_size.0;
-    if LIMIT < start {
-        return refused(refusal::ABOVE_THE_LIMIT, at);
-    }
-    if LIMIT < label {
-        return refused(refusal::ABOVE_THE_LIMIT, at);
-    }
-    if LIMIT < extension {
-        return refused(refusal::ABOVE_THE_LIMIT, at);
-    }
-    if LIMIT < body {
-        return refused(refusal::ABOVE_THE_LIMIT, at);
-    }
-    let length = start + padded(56 + label + extension + body);
-    if LIMIT < length {
-        return refused(refusal::ABOVE_THE_LIMIT, at);
-    }
-    let extension_at = start + 56 + label;
-    let body_at = extension_at + extension;
-    PropertiesLayout::Fits(PropertiesParts {
-        label: part(start + 56, label),
-        extension: part(extension_at, extension),
-        body: part(body_at, body),
-        section_length: Bytes(length),
-    })
-}
-
-// P2 to P5, for a header at `at`.
-pub fn properties_steps(f: PropertiesFields, at: Bytes) -> PropertiesLayout
-    ensures { λ r. ⌜ r ≡ propertiesSteps f (at .0) ⌝ }
-{
-    let allocation = f.allocation_body_size.0;
-    let body = f.message_size.0;
-    if 250 < f.label_length.0 {
-        return refused(refusal::LABEL_LENGTH, at);
+    if LABEL_UNITS < f.label_length.0 {
+        return refusal::LABEL_LENGTH;
     }
     if !is_listed(f.message_class) {
-        return refused(refusal::CLASS, at);
+        return refusal::CLASS;
     }
-    if allocation < body {
-        return refused(refusal::ALLOCATION, at);
+    if f.allocation_body_size.0 < f.message_size.0 {
+        return refusal::ALLOCATION;
     }
-    if LIMIT < allocation {
-        return refused(refusal::ALLOCATION, at);
+    if LIMIT < f.allocation_body_size.0 {
+        return refusal::ALLOCATION;
     }
-    layout_within(f, at)
+    refusal::PASSED
 }
 
-// P7, for a header at `at`.
-pub fn label_contents(label: &[u8], at: Bytes) -> Checked
-    ensures { λ r. ⌜ r ≡ labelContents (now (label .entry)) (at .0) ⌝ }
+// Where the section ends, its MessagePropertiesHeader at `at`, but at most one byte above the limit, so that no sum
+// wraps.
+pub fn section_end(f: PropertiesFields, at: Bytes) -> Bytes
+    ensures { λ r. ⌜ r .0 ≡ min (limit + 1) (at .0 + propertiesLength f) ⌝ }
+{
+    let label = f.label_length.bytes();
+    let largest = larger(larger(at, label), larger(f.extension_size, f.message_size));
+    if LIMIT < largest.0 {
+        return Bytes(LIMIT + 1);
+    }
+    let size = Bytes(56 + label.0 + f.extension_size.0 + f.message_size.0);
+    let end = at.0 + padded(size).0;
+    if LIMIT < end {
+        return Bytes(LIMIT + 1);
+    }
+    Bytes(end)
+}
+
+// P7
+pub fn label_contents(label: &[u8]) -> u32
+    ensures { λ r. ⌜ r ≡ labelContents (now (label .entry)) ⌝ }
 {
     if label.len() == 0 {
-        return Checked::Passed;
+        return refusal::PASSED;
     }
     if !is_text(label) {
-        return Checked::Refused(Refusal {
-            number: refusal::LABEL,
-            place: at,
-        });
+        return refusal::LABEL;
     }
-    Checked::Passed
+    refusal::PASSED
 }

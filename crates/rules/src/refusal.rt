@@ -7,11 +7,14 @@ pub struct Refusal {
     pub place: Bytes,
 }
 
-// What steps that look at content alone find.
+// What the steps of a request find.
 pub enum Checked {
     Passed,
     Refused(Refusal),
 }
+
+// A list of steps answers the number of the first that fails, or this.
+pub const PASSED: u32 = 0;
 
 pub const INPUT_SHORT: u32 = 1;
 

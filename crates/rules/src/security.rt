@@ -1,20 +1,28 @@
-// SecurityHeader: its fields, its parts, and the steps S2 to S8 and S10 to S11.
+// SecurityHeader: its fields, its parts, its length, and the steps S2 to S7, S10 and S11.
+use crate::layout::larger;
 use crate::layout::padded;
-use crate::layout::part;
 use crate::refusal;
-use crate::refusal::Checked;
-use crate::refusal::Refusal;
 use crate::section::LIMIT;
 use crate::section::Part;
 use octets::count::Bytes;
 use octets::number::u8_at;
 use octets::text::is_text;
 ghost use mathlib.Core.Path.{_≡_};
-ghost use mathlib.Core.Bool.{cond};
-ghost use Prim.Native.Nat.{_-_, _/_};
-ghost use lib.Dec.{ltb};
-ghost use Rattle.rules.specs.Refusal.{refusal, limit};
-ghost use Rattle.rules.specs.Security.{allEmpty, identitySize, identityHead, providerSize, providerText, securityContents, securityLength, securityParts, securitySteps};
+ghost use Prim.Native.Nat.{_+_, _-_, _/_, min};
+ghost use Rattle.rules.specs.Layout.{LargestSize};
+ghost use Rattle.rules.specs.Refusal.{limit};
+ghost use Rattle.rules.specs.Security.{allEmpty, identitySize, identityHead, providerSize, providerText, securityContents, securityLength, securitySteps};
+
+// The bits of Flags, each by its lowest; ST is below AU.
+pub const AU: u32 = 0x0010;
+
+pub const EB: u32 = 0x0020;
+
+pub const DE: u32 = 0x0040;
+
+pub const DP: u32 = 0x0080;
+
+pub const AS: u32 = 0x0100;
 
 // The judged fields of the 16 fixed bytes. Of Flags the bits 0 to 11: the four X bits are private.
 // (32 bits wide, so that no gap in the struct is copied piecemeal.)
@@ -49,17 +57,6 @@ pub struct SecurityHeader {
     pub provider_type: u32,
 }
 
-// What the steps on the fixed fields find: the layout, or the refusal.
-pub enum SecurityLayout {
-    Fits(SecurityParts),
-    Refused(Refusal),
-}
-
-pub enum SecurityRead {
-    Header(SecurityHeader),
-    Refused(Refusal),
-}
-
 fn is_empty(f: SecurityFields) -> bool
     ensures { λ r. ⌜ r ≡ allEmpty f ⌝ }
 {
@@ -82,134 +79,113 @@ fn is_empty(f: SecurityFields) -> bool
 }
 
 // S6
-pub fn identity_size_fits(st: u32, size: usize) -> bool
-    ensures { λ r. ⌜ r ≡ identitySize st size ⌝ }
+pub fn identity_size_fits(st: u32, size: Bytes) -> bool
+    ensures { λ r. ⌜ r ≡ identitySize st (size .0) ⌝ }
 {
     if st == 0 {
-        return size == 0;
+        return size.0 == 0;
     }
     if st == 1 {
-        if size < 8 {
+        if size.0 < 8 {
             return false;
         }
-        if 68 < size {
+        if 68 < size.0 {
             return false;
         }
-        return size % 4 == 0;
+        return size.0 % 4 == 0;
     }
-    size == 16
+    size.0 == 16
 }
 
 // S7
-fn provider_size_fits(de: u32, signature: usize, size: usize) -> bool
-    ensures { λ r. ⌜ r ≡ providerSize de signature size ⌝ }
+fn provider_size_fits(de: u32, signature: Bytes, size: Bytes) -> bool
+    ensures { λ r. ⌜ r ≡ providerSize de (signature .0) (size .0) ⌝ }
 {
     if de == 1 {
-        return size == 0;
+        return size.0 == 0;
     }
-    if 0 < signature {
-        if size % 2 != 0 {
+    if 0 < signature.0 {
+        if size.0 % 2 != 0 {
             return false;
         }
-        return 8 <= size;
+        return 8 <= size.0;
     }
-    if size == 0 {
+    if size.0 == 0 {
         return true;
     }
-    if size % 2 != 0 {
+    if size.0 % 2 != 0 {
         return false;
     }
-    6 <= size
+    6 <= size.0
 }
 
-// S8. A size above the limit decides by itself, so that no sum wraps.
-pub fn layout_within(f: SecurityFields, at: Bytes) -> SecurityLayout
-    ensures { λ r. ⌜ r ≡ cond (ltb limit (securityLength f)) (SecurityLayout.Refused (refusal 8 (at .0))) (SecurityLayout.Fits (securityParts f)) ⌝ }
-{
-    let sender_id = f.sender_id_size.0;
-    let encryption_key = f.encryption_key_size.0;
-    let signature = f.signature_size.0;
-    let sender_cert = f.sender_cert_size.0;
-    let provider_info = f.provider_info_size.0;
-    if LIMIT < sender_id {
-        return refused(refusal::ABOVE_THE_LIMIT, at);
-    }
-    if LIMIT < encryption_key {
-        return refused(refusal::ABOVE_THE_LIMIT, at);
-    }
-    if LIMIT < signature {
-        return refused(refusal::ABOVE_THE_LIMIT, at);
-    }
-    if LIMIT < sender_cert {
-        return refused(refusal::ABOVE_THE_LIMIT, at);
-    }
-    if LIMIT < provider_info {
-        return refused(refusal::ABOVE_THE_LIMIT, at);
-    }
-    let key_at = 16 + padded(sender_id);
-    let signature_at = key_at + padded(encryption_key);
-    let cert_at = signature_at + padded(signature);
-    let provider_at = cert_at + padded(sender_cert);
-    let length = provider_at + padded(provider_info);
-    if LIMIT < length {
-        return refused(refusal::ABOVE_THE_LIMIT, at);
-    }
-    SecurityLayout::Fits(SecurityParts {
-        sender_id: part(16, sender_id),
-        encryption_key: part(key_at, encryption_key),
-        signature: part(signature_at, signature),
-        sender_cert: part(cert_at, sender_cert),
-        provider_info: part(provider_at, provider_info),
-        length: Bytes(length),
-    })
-}
-
-fn refused(number: u32, place: Bytes) -> SecurityLayout
-    ensures { λ r. ⌜ r ≡ SecurityLayout.Refused (refusal number (place .0)) ⌝ }
-{
-    SecurityLayout::Refused(Refusal { number, place })
-}
-
-// S2 to S8, for a header at `at`.
-pub fn security_steps(f: SecurityFields, at: Bytes) -> SecurityLayout
-    ensures { λ r. ⌜ r ≡ securitySteps f (at .0) ⌝ }
+// S2 to S7
+pub fn security_steps(f: SecurityFields) -> u32
+    ensures { λ r. ⌜ r ≡ securitySteps f ⌝ }
 {
     let flags = f.flags;
-    if 2 < flags % 16 {
-        return refused(refusal::SENDER_KIND, at);
+    if 2 < flags % AU {
+        return refusal::SENDER_KIND;
     }
-    if flags / 16 % 2 != 0 {
-        return refused(refusal::AU_OR_AS, at);
+    if flags / AU % 2 != 0 {
+        return refusal::AU_OR_AS;
     }
-    if flags / 256 % 16 != 0 {
-        return refused(refusal::AU_OR_AS, at);
+    if flags / AS % 16 != 0 {
+        return refusal::AU_OR_AS;
     }
     if is_empty(f) {
-        return refused(refusal::EMPTY_OR_DP_CLEAR, at);
+        return refusal::EMPTY_OR_DP_CLEAR;
     }
-    if flags / 128 % 2 == 0 {
-        return refused(refusal::EMPTY_OR_DP_CLEAR, at);
+    if flags / DP % 2 == 0 {
+        return refusal::EMPTY_OR_DP_CLEAR;
     }
     if 65535 < f.sender_cert_size.0 {
-        return refused(refusal::CERTIFICATE_SIZE, at);
+        return refusal::CERTIFICATE_SIZE;
     }
-    if !identity_size_fits(flags % 16, f.sender_id_size.0) {
-        return refused(refusal::IDENTITY, at);
+    if !identity_size_fits(flags % AU, f.sender_id_size) {
+        return refusal::IDENTITY;
     }
-    if !provider_size_fits(flags / 64 % 2, f.signature_size.0, f.provider_info_size.0) {
-        return refused(refusal::PROVIDER, at);
+    if !provider_size_fits(flags / DE % 2, f.signature_size, f.provider_info_size) {
+        return refusal::PROVIDER;
     }
-    layout_within(f, at)
+    refusal::PASSED
+}
+
+fn largest_size(f: SecurityFields) -> Bytes
+    ensures { λ r. ⌜ LargestSize f (r .0) ⌝ }
+{
+    let sender = larger(f.sender_id_size, f.sender_cert_size);
+    let message = larger(f.encryption_key_size, f.signature_size);
+    larger(larger(sender, message), f.provider_info_size)
+}
+
+// The header's length, but at most one byte above the limit, so that no sum wraps.
+pub fn security_length(f: SecurityFields) -> Bytes
+    ensures { λ r. ⌜ r .0 ≡ min (limit + 1) (securityLength f) ⌝ }
+{
+    if LIMIT < largest_size(f).0 {
+        return Bytes(LIMIT + 1);
+    }
+    let identity = padded(f.sender_id_size).0;
+    let key = padded(f.encryption_key_size).0;
+    let signature = padded(f.signature_size).0;
+    let certificate = padded(f.sender_cert_size).0;
+    let provider = padded(f.provider_info_size).0;
+    let length = 16 + identity + key + signature + certificate + provider;
+    if LIMIT < length {
+        return Bytes(LIMIT + 1);
+    }
+    Bytes(length)
 }
 
 // The k of S10: an identity of 8 + 4k bytes.
-fn sub_authorities(size: usize) -> usize
-    ensures { λ r. ⌜ r ≡ (size - 8) / 4 ⌝ }
+fn sub_authorities(size: Bytes) -> usize
+    ensures { λ r. ⌜ r ≡ (size .0 - 8) / 4 ⌝ }
 {
-    if size < 8 {
+    if size.0 < 8 {
         return 0;
     }
-    (size - 8) / 4
+    (size.0 - 8) / 4
 }
 
 // S10
@@ -217,13 +193,13 @@ pub fn identity_head_fits(f: SecurityFields, identity: &[u8]) -> bool
     ensures { λ r. ⌜ r ≡ identityHead f (now (identity .entry)) ⌝ }
 {
     let flags = f.flags;
-    if flags % 16 != 1 {
+    if flags % AU != 1 {
         return true;
     }
-    if u8_at(identity, 0) != 1 {
+    if u8_at(identity, Bytes(0)) != 1 {
         return false;
     }
-    u8_at(identity, 1) as usize == sub_authorities(f.sender_id_size.0)
+    u8_at(identity, Bytes(1)) as usize == sub_authorities(f.sender_id_size)
 }
 
 // S11
@@ -239,21 +215,15 @@ fn provider_text_fits(info: &[u8]) -> bool
     is_text(&info[4..])
 }
 
-// S10 and S11, for a header at `at`.
-pub fn security_contents(f: SecurityFields, identity: &[u8], info: &[u8], at: Bytes) -> Checked
-    ensures { λ r. ⌜ r ≡ securityContents f (now (identity .entry)) (now (info .entry)) (at .0) ⌝ }
+// S10 and S11
+pub fn security_contents(f: SecurityFields, identity: &[u8], info: &[u8]) -> u32
+    ensures { λ r. ⌜ r ≡ securityContents f (now (identity .entry)) (now (info .entry)) ⌝ }
 {
     if !identity_head_fits(f, identity) {
-        return Checked::Refused(Refusal {
-            number: refusal::IDENTITY,
-            place: at,
-        });
+        return refusal::IDENTITY;
     }
     if !provider_text_fits(info) {
-        return Checked::Refused(Refusal {
-            number: refusal::PROVIDER,
-            place: at,
-        });
+        return refusal::PROVIDER;
     }
-    Checked::Passed
+    refusal::PASSED
 }

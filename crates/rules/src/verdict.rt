@@ -1,5 +1,6 @@
 // 01's two verdicts, which go with an acceptance and refuse nothing.
 use crate::properties::PropertiesFields;
+use crate::security::EB;
 use crate::security::SecurityFields;
 ghost use mathlib.Core.Path.{_≡_};
 ghost use Rattle.rules.specs.Listed.{listed, privacyLevels, hashAlgorithms, encryptionAlgorithms};
@@ -92,7 +93,7 @@ pub fn decryption_fails(security: SecurityFields, properties: PropertiesFields) 
     ensures { λ r. ⌜ r ≡ decryptionFails security properties ⌝ }
 {
     let flags = security.flags;
-    if flags / 32 % 2 == 1 {
+    if flags / EB % 2 == 1 {
         if !is_encryption_algorithm(properties.encryption_algorithm) {
             return true;
         }

@@ -4,11 +4,11 @@ use mathlib.Core.Path.{_≡_, refl, sym, ap, _∙_}
 use mathlib.Core.List.{List, [], _∷_, _++_}
 use mathlib.Core.Bool.{Bool, true, false, cond}
 use native.Mathlib.Omega.{arith}
-use borrow.Author.Tests.{le-ltb}
+use borrow.Author.Tests.{le-ltb, lt-ltb}
 use lib.ListN.{length, getD, take, drop, length-append, length-drop}
 use lib.Dec.{leb·suc-zero}
 use lib.Seq.{length-take-le, getD-take, getD-drop, take-all, take-at, drop-drop, drop-append-seam}
-use Rattle.octets.specs.Part.{within}
+use Rattle.octets.specs.Part.{whole, within}
 
 cond-same : (b : Bool) → cond {A = List ℕ} b [] [] ≡ []
 cond-same true = refl
@@ -48,3 +48,12 @@ within-row s (x ∷ xs) ys at n row e =
     let size : length s - at ≡ length (x ∷ xs) + length ys =
     sym (length-drop at s) ∙ ap length row ∙ length-append (x ∷ xs) ys in
     rw (within-in s at n (omega arith), row) (take-at (x ∷ xs) ys n e)
+
+-- enough bytes, or too few
+pub whole-in : (n : ℕ) (s : List ℕ) → n ≤ length s → whole n s ≡ s
+unfolding whole
+whole-in n s h = rw (le-ltb (length s) n h)
+
+pub whole-out : (n : ℕ) (s : List ℕ) → length s < n → whole n s ≡ []
+unfolding whole
+whole-out n s h = rw (lt-ltb (length s) n h)

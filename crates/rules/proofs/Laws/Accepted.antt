@@ -1,60 +1,56 @@
 -- What an accepted input has passed, and that an input which passed it is accepted.
-use Prim.Native.Nat.{ℕ, _+_, _-_, _%_, _≤_}
-use mathlib.Core.Path.{_≡_, refl, sym, ap, subst}
+use Prim.Native.Nat.{ℕ, suc, _+_, _%_, _≤_}
+use mathlib.Core.Path.{_≡_, refl, sym, ap, subst, _∙_}
 use mathlib.Core.Logic.{_↔_}
 use mathlib.Core.Bool.{Bool, true, false, not, _&&_, _||_, cond, and-eq-true-iff, true≢false}
 use mathlib.Core.List.{List}
 use native.Mathlib.Omega.{arith}
-use borrow.Author.Tests.{ltb-false, le-ltb, not-false, eqb-true, leb-true}
-use lib.ListN.{length, drop, length-drop}
+use borrow.Author.Tests.{ltb-false, le-ltb, not-false, eqb-true, eqb-false, eq-eqb, ne-eqb, leb-true}
+use lib.ListN.{length, drop}
 use lib.Dec.{eqb, ltb, leb}
 use Rattle.rules.specs.Listed.{listed, classes}
-use Rattle.rules.specs.Properties.{propertiesFields, propertiesLength, propertiesParts, propertiesSteps, labelContents}
-use Rattle.rules.specs.Reading.{readSecurity, securityAfterSteps, securityAfterContents, securityHeader, readProperties, propertiesAfterSteps, propertiesAfterContents, afterSecurity, securityAt, summarize}
-use Rattle.rules.specs.Refusal.{limit}
-use Rattle.rules.specs.Security.{ST, securityFields, securityLength, securityParts, securitySteps, sizeSteps, securityContents, identitySize, providerSize, allEmpty, AU, AS, DE, DP}
+use Rattle.rules.specs.Properties.{propertiesFields, propertiesLength, propertiesParts, propertiesSteps, labelContents, labelText, readProperties}
+use Rattle.rules.specs.Reading.{fieldsAt, headerAt, judge, propertiesNumber, securityHeader, securityNumber, startAt, summarize, summaryAt}
+use Rattle.rules.specs.Refusal.{firstOf, limit, refusal}
+use Rattle.rules.specs.Security.{ST, identityHead, providerText, readSecurity, securityFields, securityLength, securityParts, securitySteps, securityContents, identitySize, providerSize, allEmpty, AU, AS, DE, DP}
 use Rattle.rules.specs.Summary.{partOf, noSecurity, summaryOf, labelOf, propertiesAt}
 use Rattle.rules.specs.declared.refusal.Refusal.{Refusal}
-use Rattle.rules.specs.declared.refusal.Checked.{Checked}
-use Rattle.rules.specs.declared.refusal.Checked.the-variants.{Passed, Refused as Checked·Refused}
 use Rattle.rules.specs.declared.properties.PropertiesFields.{PropertiesFields}
-use Rattle.rules.specs.declared.properties.PropertiesLayout.{PropertiesLayout}
-use Rattle.rules.specs.declared.properties.PropertiesLayout.the-variants.{Fits as Properties·Fits, Refused as Properties·Refused}
 use Rattle.rules.specs.declared.properties.PropertiesParts.{PropertiesParts}
 use Rattle.rules.specs.declared.section.Summarized.the-variants.{Accepted, Refused}
 use Rattle.rules.specs.declared.section.Summary.{Summary}
 use Rattle.rules.specs.declared.security.SecurityFields.{SecurityFields}
 use Rattle.rules.specs.declared.security.SecurityHeader.{SecurityHeader}
-use Rattle.rules.specs.declared.security.SecurityLayout.{SecurityLayout}
-use Rattle.rules.specs.declared.security.SecurityLayout.the-variants.{Fits as Security·Fits, Refused as Layout·Refused}
 use Rattle.rules.specs.declared.security.SecurityParts.{SecurityParts}
-use Rattle.rules.specs.declared.security.SecurityRead.{SecurityRead}
-use Rattle.rules.specs.declared.security.SecurityRead.the-variants.{Header, Refused as Security·Refused}
 
--- a step that passed: its test is false, and the answer is that of the steps after it
-pub passed : {A : Type 0} (b : Bool) {x y z : A} → ¬ (x ≡ z) → cond b x y ≡ z → (b ≡ false) × (y ≡ z)
-passed true other e = absurd (other e)
-passed false other e = (refl, e)
+-- a step that passed: its test is false, and the steps after it pass
+pub passed : (b : Bool) (n : ℕ) {rest : ℕ} → ¬ (n ≡ 0) → cond b n rest ≡ 0 → (b ≡ false) × (rest ≡ 0)
+passed true n some e = absurd (some e)
+passed false n some e = (refl, e)
+
+-- a list of steps that passed, and the steps after it
+pub first-passed : (steps : ℕ) {next : ℕ} → firstOf steps next ≡ 0 → (steps ≡ 0) × (next ≡ 0)
+unfolding firstOf
+first-passed steps {next} e = go (eqb steps 0) refl e
+  where
+    go : (b : Bool) → eqb steps 0 ≡ b → cond b next steps ≡ 0 → (steps ≡ 0) × (next ≡ 0)
+    go true f e = (eqb-true steps 0 f, e)
+    go false f e = absurd (eqb-false steps 0 f e)
+
+pub first-next : (steps next : ℕ) → steps ≡ 0 → firstOf steps next ≡ next
+unfolding firstOf
+first-next steps next e = rw (eq-eqb steps 0 e)
 
 -- neither of two tests
 pub neither : (a b : Bool) → (a || b) ≡ false → (a ≡ false) × (b ≡ false)
 neither true b e = absurd (true≢false e)
 neither false b e = (refl, e)
 
--- a refusal is no other answer
-layout≢ : {r : Refusal} {parts : SecurityParts} → ¬ (Layout·Refused r ≡ Security·Fits parts)
-layout≢ e = let z : _≡_ {A = ℕ} 0 1 = cc in omega arith
+-- a refusal's number is not 0
+some : (n : ℕ) → ¬ (suc n ≡ 0)
+some n e = omega arith
 
-read≢ : {r : Refusal} {h : SecurityHeader} → ¬ (Security·Refused r ≡ Header h)
-read≢ e = let z : _≡_ {A = ℕ} 0 1 = cc in omega arith
-
-properties≢ : {r : Refusal} {parts : PropertiesParts} → ¬ (Properties·Refused r ≡ Properties·Fits parts)
-properties≢ e = let z : _≡_ {A = ℕ} 0 1 = cc in omega arith
-
-refused≢ : {r : Refusal} {m : Summary} → ¬ (Refused r ≡ Accepted m)
-refused≢ e = let z : _≡_ {A = ℕ} 0 1 = cc in omega arith
-
--- what S5 to S8 ask, and the layout, where S2 to S8 pass
+-- what S5 to S8 ask, and the layout
 pub record SecurityFits (f : SecurityFields) (parts : SecurityParts) : Type 0 where
   pub cert : f .«sender_cert_size» .0 ≤ 65535
   pub identity : identitySize (ST f) (f .«sender_id_size» .0) ≡ true
@@ -63,23 +59,21 @@ pub record SecurityFits (f : SecurityFields) (parts : SecurityParts) : Type 0 wh
   pub layout : parts ≡ securityParts f
   pub size : parts .length .0 ≡ securityLength f
 
-pub security-fits : (f : SecurityFields) (at : ℕ) (parts : SecurityParts)
-    → securitySteps f at ≡ Security·Fits parts → SecurityFits f parts
-unfolding securitySteps sizeSteps securityParts
-security-fits f at parts e =
-    let s3 = passed (ltb 2 (ST f)) layout≢ e .1 in
-    let s4 = passed (not (eqb (AU f) 0) || not (eqb (AS f) 0)) layout≢ s3 .1 in
-    let s5 = passed (allEmpty f || eqb (DP f) 0) layout≢ s4 .1 in
-    let s6 = passed (ltb 65535 (f .«sender_cert_size» .0)) layout≢ s5 in
-    let s7 = passed (not (identitySize (ST f) (f .«sender_id_size» .0))) layout≢ (s6 .1) in
-    let s8 = passed (not (providerSize (DE f) (f .«signature_size» .0) (f .«provider_info_size» .0))) layout≢ (s7 .1) in
-    let fits = passed (ltb limit (securityLength f)) layout≢ (s8 .1) in
-    let layout : parts ≡ securityParts f = cc (fits .1) in
+pub security-fits : (f : SecurityFields) (parts : SecurityParts)
+    → securitySteps f ≡ 0 → securityLength f ≤ limit → parts ≡ securityParts f → SecurityFits f parts
+unfolding securitySteps securityParts
+security-fits f parts e small layout =
+    let s3 = passed (ltb 2 (ST f)) 2 (some 1) e .1 in
+    let s4 = passed (not (eqb (AU f) 0) || not (eqb (AS f) 0)) 3 (some 2) s3 .1 in
+    let s5 = passed (allEmpty f || eqb (DP f) 0) 4 (some 3) s4 .1 in
+    let s6 = passed (ltb 65535 (f .«sender_cert_size» .0)) 5 (some 4) s5 in
+    let s7 = passed (not (identitySize (ST f) (f .«sender_id_size» .0))) 6 (some 5) (s6 .1) in
+    let end = passed (not (providerSize (DE f) (f .«signature_size» .0) (f .«provider_info_size» .0))) 7 (some 6) (s7 .1) in
     record {
       cert = ltb-false 65535 (f .«sender_cert_size» .0) (s6 .0);
       identity = not-false (identitySize (ST f) (f .«sender_id_size» .0)) (s7 .0);
-      provider = not-false (providerSize (DE f) (f .«signature_size» .0) (f .«provider_info_size» .0)) (s8 .0);
-      small = ltb-false limit (securityLength f) (fits .0);
+      provider = not-false (providerSize (DE f) (f .«signature_size» .0) (f .«provider_info_size» .0)) (end .0);
+      small = small;
       layout = layout;
       size = ap (λ (x : SecurityParts). x .length .0) layout;
     }
@@ -104,7 +98,7 @@ identity-le st n e one =
     let sizes = and-eq-true-iff (leb 8 n && leb n 68) (eqb (n % 4) 0) .0 at-one .0 in
     leb-true 8 n (and-eq-true-iff (leb 8 n) (leb n 68) .0 sizes .0)
 
--- what P2, P4 and P5 ask, and the layout, where P2 to P5 pass
+-- what P2, P4 and P5 ask, and the layout
 pub record PropertiesFits (f : PropertiesFields) (p : ℕ) (parts : PropertiesParts) : Type 0 where
   pub label : f .«label_length» .0 ≤ 250
   pub allocation : f .«allocation_body_size» .0 ≤ limit
@@ -113,39 +107,48 @@ pub record PropertiesFits (f : PropertiesFields) (p : ℕ) (parts : PropertiesPa
   pub size : parts .«section_length» .0 ≡ p + propertiesLength f
 
 pub properties-fits : (f : PropertiesFields) (p : ℕ) (parts : PropertiesParts)
-    → propertiesSteps f p ≡ Properties·Fits parts → PropertiesFits f p parts
+    → propertiesSteps f ≡ 0 → p + propertiesLength f ≤ limit → parts ≡ propertiesParts p f → PropertiesFits f p parts
 unfolding propertiesSteps propertiesParts
-properties-fits f p parts e =
-    let p3 = passed (ltb 250 (f .«label_length» .0)) properties≢ e in
-    let p4 = passed (not (listed classes (f .«message_class»))) properties≢ (p3 .1) .1 in
+properties-fits f p parts e small layout =
+    let p3 = passed (ltb 250 (f .«label_length» .0)) 9 (some 8) e in
+    let p4 = passed (not (listed classes (f .«message_class»))) 10 (some 9) (p3 .1) .1 in
     let allocated = f .«allocation_body_size» .0 in
-    let p5 = passed (ltb allocated (f .«message_size» .0) || ltb limit allocated) properties≢ p4 in
-    let fits = passed (ltb limit (p + propertiesLength f)) properties≢ (p5 .1) in
-    let layout : parts ≡ propertiesParts p f = cc (fits .1) in
+    let end = passed (ltb allocated (f .«message_size» .0) || ltb limit allocated) 11 (some 10) p4 in
     record {
       label = ltb-false 250 (f .«label_length» .0) (p3 .0);
-      allocation = ltb-false limit allocated (neither (ltb allocated (f .«message_size» .0)) (ltb limit allocated) (p5 .0) .1);
-      small = ltb-false limit (p + propertiesLength f) (fits .0);
+      allocation = ltb-false limit allocated (neither (ltb allocated (f .«message_size» .0)) (ltb limit allocated) (end .0) .1);
+      small = small;
       layout = layout;
       size = ap (λ (x : PropertiesParts). x .«section_length» .0) layout;
     }
 
--- what a SecurityHeader has passed, and what was read: S1, S2 to S8, S9, S10 and S11
+-- what a SecurityHeader has passed, and what was read: S1, S2 to S7, S8, S9, S10 and S11
 pub record SecurityPassed (s : List ℕ) (h : SecurityHeader) : Type 0 where
   pub fixed : 16 ≤ length s
-  pub fits : securitySteps (h .fields) 0 ≡ Security·Fits (h .parts)
+  pub steps : securitySteps (h .fields) ≡ 0
+  pub small : securityLength (h .fields) ≤ limit
   pub reaches : h .parts .length .0 ≤ length s
-  pub contents : securityContents (h .fields) (partOf s (h .parts .«sender_id»)) (partOf s (h .parts .«provider_info»)) 0
-      ≡ Passed
+  pub identity : identityHead (h .fields) (partOf s (h .parts .«sender_id»)) ≡ true
+  pub provider : providerText (partOf s (h .parts .«provider_info»)) ≡ true
+  pub parts : h .parts ≡ securityParts (h .fields)
   pub header : h ≡ securityHeader s (h .parts)
 
--- what a MessagePropertiesHeader has passed, and what was read: P1, P2 to P5, P6, P7
+-- what a MessagePropertiesHeader has passed, and what was read: P1, P2 to P4, P5, P6, P7
 pub record PropertiesPassed (first : Bool) (s : List ℕ) (m : Summary) : Type 0 where
   pub fixed : propertiesAt m + 56 ≤ length s
-  pub fits : propertiesSteps (m .properties) (propertiesAt m) ≡ Properties·Fits (m .parts)
+  pub steps : propertiesSteps (m .properties) ≡ 0
+  pub small : propertiesAt m + propertiesLength (m .properties) ≤ limit
   pub reaches : m .parts .«section_length» .0 ≤ length s
-  pub contents : labelContents (labelOf m s) (propertiesAt m) ≡ Passed
+  pub label : labelText (labelOf m s) ≡ true
+  pub parts : m .parts ≡ propertiesParts (propertiesAt m) (m .properties)
   pub summary : m ≡ summaryOf first (m .security) (propertiesFields (drop (propertiesAt m) s)) (m .parts)
+
+pub header-fits : {s : List ℕ} {h : SecurityHeader} → SecurityPassed s h → SecurityFits (h .fields) (h .parts)
+header-fits {s} {h} a = security-fits (h .fields) (h .parts) (a .steps) (a .small) (a .parts)
+
+pub section-fits : {first : Bool} {s : List ℕ} {m : Summary} → PropertiesPassed first s m
+    → PropertiesFits (m .properties) (propertiesAt m) (m .parts)
+section-fits {first} {s} {m} a = properties-fits (m .properties) (propertiesAt m) (m .parts) (a .steps) (a .small) (a .parts)
 
 -- the fields are those of the input
 pub security-fields : (s : List ℕ) (h : SecurityHeader) → SecurityPassed s h → h .fields ≡ securityFields s
@@ -166,109 +169,132 @@ pub record SectionPassed (first : Bool) (s : List ℕ) (m : Summary) : Type 0 wh
   pub security : HeaderPassed first s (m .security)
   pub properties : PropertiesPassed first s m
 
--- reading a SecurityHeader, from its last step to its first
-security-contents : (s : List ℕ) (parts : SecurityParts) (c : Checked) (h : SecurityHeader)
-    → securityAfterContents s parts c ≡ Header h → (c ≡ Passed) × (h ≡ securityHeader s parts)
-unfolding securityAfterContents
-security-contents s parts Passed h e = (refl, cc)
-security-contents s parts (Checked·Refused r) h e = absurd (read≢ e)
+-- what has passed is what the input holds
+header-at : (first : Bool) (s : List ℕ) (h : SecurityHeader) → HeaderPassed first s h → h ≡ headerAt first s
+unfolding headerAt
+header-at true s h a = a .header ∙ ap (securityHeader s) (a .parts ∙ ap securityParts (security-fields s h a))
+header-at false s h a = a
 
-security-steps : (s : List ℕ) (l : SecurityLayout) (h : SecurityHeader) → 16 ≤ length s
-    → securitySteps (securityFields s) 0 ≡ l → securityAfterSteps s l ≡ Header h → SecurityPassed s h
-unfolding securityAfterSteps securityHeader
-security-steps s (Security·Fits parts) h fixed fits e =
-    let s9 = passed (ltb (length s) (parts .length .0)) read≢ e in
-    let identity = partOf s (parts .«sender_id») in
-    let info = partOf s (parts .«provider_info») in
-    let s11 = security-contents s parts (securityContents (securityFields s) identity info 0) h (s9 .1) in
-    let r : SecurityPassed s (securityHeader s parts) = record {
-      fixed = fixed;
-      fits = fits;
-      reaches = ltb-false (length s) (parts .length .0) (s9 .0);
-      contents = s11 .0;
-      header = refl;
-    } in
-    subst (SecurityPassed s) (sym (s11 .1)) r
-security-steps s (Layout·Refused r) h fixed fits e = absurd (read≢ e)
+summary-at : (first : Bool) (s : List ℕ) (m : Summary) → SectionPassed first s m → m ≡ summaryAt first s
+unfolding summaryAt fieldsAt startAt
+summary-at first s m a =
+    let r = a .properties in
+    let p = propertiesAt m in
+    let f = propertiesFields (drop p s) in
+    r .summary
+    ∙ ap (summaryOf first (m .security) f) (r .parts ∙ ap (propertiesParts p) (properties-fields first s m r))
+    ∙ ap
+    (λ (h : SecurityHeader).
+    let f = propertiesFields (drop (h .parts .length .0) s) in
+    summaryOf first h f (propertiesParts (h .parts .length .0) f))
+    (header-at first s (m .security) (a .security))
 
--- a SecurityHeader is read exactly where it has passed
-pub security-passed : (s : List ℕ) (h : SecurityHeader) → (readSecurity s ≡ Header h) ↔ SecurityPassed s h
-unfolding readSecurity securityAfterSteps securityAfterContents
-security-passed s h = (
+-- the numbers are 0 exactly where all has passed
+pub security-number : (first : Bool) (s : List ℕ) → (securityNumber first s ≡ 0) ↔ HeaderPassed first s (headerAt first s)
+unfolding securityNumber headerAt securityHeader readSecurity securityContents securityParts
+security-number true s = (
   λ e.
-      let s1 = passed (ltb (length s) 16) read≢ e in
-      security-steps s (securitySteps (securityFields s) 0) h (ltb-false (length s) 16 (s1 .0)) refl (s1 .1),
+      let f = securityFields s in
+      let parts = securityParts f in
+      let s1 = passed (ltb (length s) 16) 1 (some 0) e in
+      let s2 = first-passed (securitySteps f) (s1 .1) in
+      let s8 = passed (ltb limit (securityLength f)) 8 (some 7) (s2 .1) in
+      let s9 = passed (ltb (length s) (securityLength f)) 1 (some 0) (s8 .1) in
+      let s10 = passed (not (identityHead f (partOf s (parts .«sender_id»)))) 6 (some 5) (s9 .1) in
+      let s11 = passed (not (providerText (partOf s (parts .«provider_info»)))) 7 (some 6) (s10 .1) in
+      record {
+        fixed = ltb-false (length s) 16 (s1 .0);
+        steps = s2 .0;
+        small = ltb-false limit (securityLength f) (s8 .0);
+        reaches = ltb-false (length s) (securityLength f) (s9 .0);
+        identity = not-false (identityHead f (partOf s (parts .«sender_id»))) (s10 .0);
+        provider = not-false (providerText (partOf s (parts .«provider_info»))) (s11 .0);
+        parts = refl;
+        header = refl;
+      },
   λ a.
-      let fields = sym (security-fields s h a) in
-      let s1 = le-ltb (length s) 16 (a .fixed) in
-      let s9 = le-ltb (length s) (h .parts .length .0) (a .reaches) in
-      rw (s1, fields, a .fits, s9, fields, a .contents) (sym (ap Header (a .header))),
+      let f = securityFields s in
+      let s8 = le-ltb limit (securityLength f) (a .small) in
+      let s9 = le-ltb (length s) (securityLength f) (a .reaches) in
+      rw (le-ltb (length s) 16 (a .fixed), first-next (securitySteps f) _ (a .steps), s8, s9, a .identity, a .provider),
+)
+security-number false s = (λ e. refl, λ a. refl)
+
+properties-number : (first : Bool) (s : List ℕ)
+    → (propertiesNumber s (startAt first s) ≡ 0) ↔ PropertiesPassed first s (summaryAt first s)
+unfolding propertiesNumber summaryAt summaryOf labelOf fieldsAt startAt readProperties labelContents propertiesParts
+properties-number first s = (
+  λ e.
+      let p = headerAt first s .parts .length .0 in
+      let f = propertiesFields (drop p s) in
+      let label = labelOf (summaryAt first s) s in
+      let p1 = passed (ltb (length s) (p + 56)) 1 (some 0) e in
+      let p2 = first-passed (propertiesSteps f) (p1 .1) in
+      let p5 = passed (ltb limit (p + propertiesLength f)) 8 (some 7) (p2 .1) in
+      let p6 = passed (ltb (length s) (p + propertiesLength f)) 1 (some 0) (p5 .1) in
+      let p7 = passed (not (labelText label)) 12 (some 11) (p6 .1) in
+      record {
+        fixed = ltb-false (length s) (p + 56) (p1 .0);
+        steps = p2 .0;
+        small = ltb-false limit (p + propertiesLength f) (p5 .0);
+        reaches = ltb-false (length s) (p + propertiesLength f) (p6 .0);
+        label = not-false (labelText label) (p7 .0);
+        parts = refl;
+        summary = refl;
+      },
+  λ a.
+      let p = headerAt first s .parts .length .0 in
+      let f = propertiesFields (drop p s) in
+      let p5 = le-ltb limit (p + propertiesLength f) (a .small) in
+      let p6 = le-ltb (length s) (p + propertiesLength f) (a .reaches) in
+      rw (le-ltb (length s) (p + 56) (a .fixed), first-next (propertiesSteps f) _ (a .steps), p5, p6, a .label),
 )
 
--- reading a MessagePropertiesHeader, from its last step to its first
-properties-contents : (first : Bool) (s : List ℕ) (h : SecurityHeader) (parts : PropertiesParts) (c : Checked) (m : Summary)
-    → propertiesAfterContents first s h parts c ≡ Accepted m
-    → (c ≡ Passed) × (m ≡ summaryOf first h (propertiesFields (drop (h .parts .length .0) s)) parts)
-unfolding propertiesAfterContents
-properties-contents first s h parts Passed m e = (refl, cc)
-properties-contents first s h parts (Checked·Refused r) m e = absurd (refused≢ e)
-
-properties-steps : (first : Bool) (s : List ℕ) (h : SecurityHeader) (l : PropertiesLayout) (m : Summary)
-    → h .parts .length .0 + 56 ≤ length s
-    → propertiesSteps (propertiesFields (drop (h .parts .length .0) s)) (h .parts .length .0) ≡ l
-    → propertiesAfterSteps first s h l ≡ Accepted m → (m .security ≡ h) × PropertiesPassed first s m
-unfolding propertiesAfterSteps summaryOf labelOf
-properties-steps first s h (Properties·Fits parts) m fixed fits e =
-    let p6 = passed (ltb (length s) (parts .«section_length» .0)) refused≢ e in
-    let p7 = properties-contents first s h parts (labelContents (partOf s (parts .label)) (h .parts .length .0)) m (p6 .1) in
-    let r : PropertiesPassed first s (summaryOf first h (propertiesFields (drop (h .parts .length .0) s)) parts) = record {
-      fixed = fixed;
-      fits = fits;
-      reaches = ltb-false (length s) (parts .«section_length» .0) (p6 .0);
-      contents = p7 .0;
-      summary = refl;
-    } in
-    (ap (λ (x : Summary). x .security) (p7 .1), subst (PropertiesPassed first s) (sym (p7 .1)) r)
-properties-steps first s h (Properties·Refused r) m fixed fits e = absurd (refused≢ e)
-
--- a MessagePropertiesHeader is read exactly where it has passed
-pub properties-passed : (first : Bool) (s : List ℕ) (h : SecurityHeader) (m : Summary)
-    → (readProperties first s h ≡ Accepted m) ↔ ((m .security ≡ h) × PropertiesPassed first s m)
-unfolding readProperties propertiesAfterSteps propertiesAfterContents labelOf
-properties-passed first s h m = (
+pub judge-passed : (first : Bool) (s : List ℕ) → (judge first s .number ≡ 0) ↔ SectionPassed first s (summaryAt first s)
+unfolding judge summaryAt summaryOf
+judge-passed first s = (
   λ e.
-      let p = h .parts .length .0 in
-      let p1 = passed (ltb (length (drop p s)) 56) refused≢ e in
-      let room : 56 ≤ length s - p = rw length-drop at (ltb-false (length (drop p s)) 56 (p1 .0)) in
-      properties-steps first s h (propertiesSteps (propertiesFields (drop p s)) p) m (omega arith) refl (p1 .1),
+      let both = go (securityNumber first s) (eqb (securityNumber first s) 0) refl e in
+      record { security = security-number first s .0 (both .0); properties = properties-number first s .0 (both .1) },
   λ a.
-      let p = propertiesAt m in
-      let r = a .1 in
-      let fields = sym (properties-fields first s m r) in
-      let p1 = le-ltb (length (drop p s)) 56 (rw length-drop (omega (arith, r .fixed))) in
-      let p6 = le-ltb (length s) (m .parts .«section_length» .0) (r .reaches) in
-      subst (λ (h : SecurityHeader). readProperties first s h ≡ Accepted m) (a .0)
-      (rw (p1, fields, r .fits, p6, r .contents) (sym (ap Accepted (r .summary)))),
+      rw (eq-eqb (securityNumber first s) 0 (security-number first s .1 (a .security)))
+      (properties-number first s .1 (a .properties)),
 )
+  where
+    go : (n : ℕ) (b : Bool) → eqb n 0 ≡ b
+        → cond b (refusal (propertiesNumber s (startAt first s)) (startAt first s)) (refusal n 0) .number ≡ 0
+        → (n ≡ 0) × (propertiesNumber s (startAt first s) ≡ 0)
+    go n true f e = (eqb-true n 0 f, e)
+    go n false f e = absurd (eqb-false n 0 f e)
 
-section-security : (s : List ℕ) (r : SecurityRead) (m : Summary)
-    → readSecurity s ≡ r → afterSecurity true s r ≡ Accepted m → SectionPassed true s m
-unfolding afterSecurity
-section-security s (Header h) m f e =
-    let a = properties-passed true s h m .0 e in
-    record { security = subst (SecurityPassed s) (sym (a .0)) (security-passed s h .0 f); properties = a .1 }
-section-security s (Security·Refused r) m f e = absurd (refused≢ e)
+-- an accepted input's summary is made from its bytes alone
+pub accepted-at : (first : Bool) (s : List ℕ) (m : Summary) → summarize first s ≡ Accepted m
+    → (judge first s .number ≡ 0) × (m ≡ summaryAt first s)
+unfolding summarize
+accepted-at first s m e = go (eqb (judge first s .number) 0) refl e
+  where
+    go : (b : Bool) → eqb (judge first s .number) 0 ≡ b → cond b (Accepted (summaryAt first s)) (Refused (judge first s)) ≡ Accepted m
+        → (judge first s .number ≡ 0) × (m ≡ summaryAt first s)
+    go true f e = (eqb-true (judge first s .number) 0 f, cc)
+    go false f e = let z : _≡_ {A = ℕ} 0 1 = cc in absurd (some 0 (sym z))
+
+-- where no step fails
+pub summarize-passed : (first : Bool) (s : List ℕ) → judge first s .number ≡ 0 → summarize first s ≡ Accepted (summaryAt first s)
+unfolding summarize
+summarize-passed first s e = rw (eq-eqb (judge first s .number) 0 e)
+
+-- and where one does
+pub summarize-refused : (first : Bool) (s : List ℕ) → ¬ (judge first s .number ≡ 0) → summarize first s ≡ Refused (judge first s)
+unfolding summarize
+summarize-refused first s e = rw (ne-eqb (judge first s .number) 0 e)
 
 -- an input is accepted exactly where it has passed
 pub section-passed : (first : Bool) (s : List ℕ) (m : Summary) → (summarize first s ≡ Accepted m) ↔ SectionPassed first s m
-unfolding summarize afterSecurity securityAt
-section-passed true s m = (
-  section-security s (readSecurity s) m refl,
+section-passed first s m = (
+  λ e.
+      let a = accepted-at first s m e in
+      subst (SectionPassed first s) (sym (a .1)) (judge-passed first s .0 (a .0)),
   λ a.
-      rw (security-passed s (m .security) .1 (a .security))
-      (properties-passed true s (m .security) m .1 (refl, a .properties)),
-)
-section-passed false s m = (
-  λ e. let a = properties-passed false s noSecurity m .0 e in record { security = a .0; properties = a .1 },
-  λ a. properties-passed false s noSecurity m .1 (a .security, a .properties),
+      let at = summary-at first s m a in
+      summarize-passed first s (judge-passed first s .1 (subst (SectionPassed first s) at a)) ∙ ap Accepted (sym at),
 )

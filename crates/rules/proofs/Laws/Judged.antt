@@ -17,7 +17,7 @@ use Rattle.rules.specs.declared.properties.PropertiesFields.{PropertiesF
 use Rattle.rules.specs.declared.section.Summary.{Summary}
 use Rattle.rules.specs.declared.security.SecurityFields.{SecurityFields}
 use Rattle.rules.specs.declared.security.SecurityHeader.{SecurityHeader}
-use Rattle.rules.proofs.Laws.Accepted.{HeaderPassed, SectionPassed, security-fits, properties-fits}
+use Rattle.rules.proofs.Laws.Accepted.{HeaderPassed, SectionPassed, header-fits, section-fits}
 use Rattle.rules.proofs.Laws.Masked.{Alike, alike-append}
 use Rattle.rules.proofs.Laws.Named.{properties-size, security-size}
 use Rattle.rules.proofs.Laws.Row.{length-rowBits}
@@ -78,7 +78,7 @@ pub length-headerMask : (first : Bool) (s : List ℕ) (h : SecurityHeader) → H
     → length (headerMask first h) ≡ h .parts .length .0
 unfolding noSecurity
 length-headerMask true s h a =
-    length-securityBits 0 (h .fields) ∙ sym (security-fits (h .fields) 0 (h .parts) (a .fits) .size)
+    length-securityBits 0 (h .fields) ∙ sym (header-fits a .size)
 length-headerMask false s h a = ap (λ (x : SecurityHeader). x .parts .length .0) (sym a)
 
 module _ (first : Bool) (s : List ℕ) (m : Summary) (a : SectionPassed first s m) where
@@ -93,7 +93,7 @@ module _ (first : Bool) (s : List ℕ) (m : Summary) (a : SectionPassed first s 
   length-judged =
       simp
       (judged-eq, length-append, length-headerMask first s (m .security) (a .security), length-propertiesBits 0)
-      (sym (properties-fits (m .properties) (propertiesAt m) (m .parts) (a .properties .fits) .size))
+      (sym (section-fits (a .properties) .size))
 
   -- and the input reaches as far
   pub judged-le : length (judged m) ≤ length s

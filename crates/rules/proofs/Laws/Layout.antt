@@ -1,26 +1,16 @@
--- Layouts: no part is longer than its header, and S8 and P5 from the comparison with the limit.
-use Prim.Native.Nat.{ℕ, _+_, _≤_, _<_}
+-- Layouts: no part is longer than its header, and parts that lie where the layout puts them.
+use Prim.Native.Nat.{ℕ, _+_, _≤_}
 use mathlib.Core.Path.{_≡_}
-use mathlib.Core.Bool.{cond}
 use native.Mathlib.Omega.{arith}
-use borrow.Author.Tests.{le-ltb, lt-ltb}
-use lib.Dec.{ltb}
 use Rattle.octets.specs.Padding.{padded}
 use Rattle.rules.specs.Properties.{bodyAt, extensionAt, labelBytes, propertiesLength, propertiesParts}
-use Rattle.rules.specs.Refusal.{bytes, limit}
+use Rattle.rules.specs.Refusal.{bytes}
 use Rattle.rules.specs.Security.{certAt, keyAt, part, providerAt, securityLength, securityParts, signatureAt}
 use Rattle.rules.specs.declared.properties.PropertiesFields.{PropertiesFields}
 use Rattle.rules.specs.declared.properties.PropertiesParts.{PropertiesParts}
 use Rattle.rules.specs.declared.section.Part.{Part}
 use Rattle.rules.specs.declared.security.SecurityFields.{SecurityFields}
 use Rattle.rules.specs.declared.security.SecurityParts.{SecurityParts}
-
--- longer than the limit, or not
-pub too-long : {A : Type 0} (n : ℕ) (x y : A) → limit < n → x ≡ cond (ltb limit n) x y
-too-long n x y h = rw (lt-ltb limit n h)
-
-pub not-too-long : {A : Type 0} (n : ℕ) (x y : A) → n ≤ limit → y ≡ cond (ltb limit n) x y
-not-too-long n x y h = rw (le-ltb limit n h)
 
 pub record SecuritySizes (f : SecurityFields) : Type 0 where
   pub «sender_id» : f .«sender_id_size» .0 ≤ securityLength f

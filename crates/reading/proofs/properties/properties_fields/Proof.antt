@@ -1,72 +1,56 @@
--- Each field is the number that its read promises.
-use borrow.Author.Needs.{needs}
+-- All zero where the fixed bytes are not all there, else the fields of the part that begins at the offset.
+use Prim.Native.Nat.{ℕ, _+_, _<_}
+use mathlib.Core.Path.{_≡_, ap, subst, sym, _∙_}
+use mathlib.Core.List.{List, []}
+use native.Mathlib.Omega.{arith}
+use denote.Ref.{now}
+use lib.ListN.{drop, length, length-drop}
+use Rattle.octets.proofs.Laws.Part.{rest-drop, whole-out}
+use Rattle.octets.proofs.Laws.Steps.{the}
+use Rattle.octets.specs.Number.{le}
 use Rattle.rules.specs.Properties.{propertiesFields}
-use Rattle.rules.proofs.Laws.Row.{le-one}
+use Rattle.rules.specs.declared.properties.PropertiesFields.{PropertiesFields}
+use Rattle.reading.specs.Fields.{PropertiesSizes, propertiesRead}
+use Rattle.reading.proofs.Laws.Fields.{properties-read}
+use borrow.Author.Needs.{needs}
 use Rattle.reading.proofs.properties.properties_fields.Statement.{statement}
 use Rattle.reading.proofs.properties.properties_fields.Tie as tie
 
-u8-at-requires : tie.Need-u8-at-requires
-u8-at-requires c κs = search needs
-
-u8-at-requires-2 : tie.Need-u8-at-requires-2
-u8-at-requires-2 c κs = search needs
-
-cast-t5 : tie.Need-cast-t5
-cast-t5 c = search needs
-
-u16-at-requires : tie.Need-u16-at-requires
-u16-at-requires c κs = search needs
-
-u32-at-requires : tie.Need-u32-at-requires
-u32-at-requires c κs = search needs
-
-u32-at-requires-2 : tie.Need-u32-at-requires-2
-u32-at-requires-2 c κs = search needs
-
-cast-t10 : tie.Need-cast-t10
-cast-t10 c = search needs
-
-u32-at-requires-3 : tie.Need-u32-at-requires-3
-u32-at-requires-3 c κs = search needs
-
-cast-t13 : tie.Need-cast-t13
-cast-t13 c = search needs
-
-u32-at-requires-4 : tie.Need-u32-at-requires-4
-u32-at-requires-4 c κs = search needs
-
-u32-at-requires-5 : tie.Need-u32-at-requires-5
-u32-at-requires-5 c κs = search needs
-
-u32-at-requires-6 : tie.Need-u32-at-requires-6
-u32-at-requires-6 c κs = search needs
-
-u32-at-requires-7 : tie.Need-u32-at-requires-7
-u32-at-requires-7 c κs = search needs
-
-cast-t19 : tie.Need-cast-t19
-cast-t19 c = search needs
+-- too few bytes
+none : (s : List ℕ) (at : ℕ) (r : PropertiesFields) → r ≡ propertiesFields [] → length s < at + 56
+    → (r ≡ propertiesRead s at) × PropertiesSizes r
+unfolding propertiesRead propertiesFields le
+none s at r e h = (
+  e ∙ sym (ap propertiesFields (whole-out 56 (drop at s) (rw length-drop (omega arith)))),
+  subst PropertiesSizes (sym e) (omega arith),
+)
 
 returns : tie.Need-returns
-unfolding propertiesFields
-returns c = simp (le-one, ← c .before .before .before .before .before .before .before .before .before .u8-at .ensures, ← c .before .before .before .before .before .before .before .before .u8-at2 .ensures, ← c .before .before .before .before .before .before .before .u16-at .ensures, ← c .before .before .before .before .before .before .u32-at .ensures, ← c .before .before .before .before .before .u32-at2 .ensures, ← c .before .before .before .before .u32-at3 .ensures, ← c .before .before .before .u32-at4 .ensures, ← c .before .before .u32-at5 .ensures, ← c .before .u32-at6 .ensures, ← c .u32-at7 .ensures)
+returns c = let a = the tie.Start (search) .args in none (now (a .s)) (a .at .0) _ (c .no-fields .ensures) (omega arith)
+
+returns-2 : tie.Need-returns-2
+returns-2 c =
+    let a = the tie.Start (search) .args in none (now (a .s)) (a .at .0) _ (c .no-fields2 .ensures) (omega arith)
+
+returns-3 : tie.Need-returns-3
+returns-3 c =
+    let a = the tie.Start (search) .args in
+    let s = now (a .s) in
+    let at = a .at .0 in (
+      c .fields-of .ensures .0 ∙ ap propertiesFields (rest-drop s at) ∙ sym (properties-read s at (omega arith)),
+      c .fields-of .ensures .1,
+    )
 
 pub properties-fields-spec : {M : Type 1} → statement M
 properties-fields-spec =
     tie.close
     (tie.spec
-    u8-at-requires
-    u8-at-requires-2
-    cast-t5
-    u16-at-requires
-    u32-at-requires
-    u32-at-requires-2
-    cast-t10
-    u32-at-requires-3
-    cast-t13
-    u32-at-requires-4
-    u32-at-requires-5
-    u32-at-requires-6
-    u32-at-requires-7
-    cast-t19
-    returns)
+    (λ c κs. search needs)
+    returns
+    (λ c. search needs)
+    (λ c. search needs)
+    (λ c. search needs)
+    (λ c κs. search needs)
+    returns-2
+    (λ c κs. search needs)
+    returns-3)

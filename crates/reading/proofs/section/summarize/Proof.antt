@@ -1,38 +1,37 @@
--- The SecurityHeader's answer, or that of none, decides.
+-- The refusal picks the case.
+use mathlib.Core.Path.{_≡_, ap, sym, subst, _∙_}
+use native.Mathlib.Omega.{arith}
+use denote.Ref.{now}
+use Rattle.octets.proofs.Laws.Steps.{the}
+use Rattle.rules.specs.Reading.{judge}
+use Rattle.rules.specs.declared.refusal.Refusal.{Refusal}
+use Rattle.rules.specs.declared.section.Summarized.the-variants.{Accepted, Refused}
+use Rattle.rules.proofs.Laws.Accepted.{summarize-passed, summarize-refused}
 use borrow.Author.Needs.{needs}
-use Rattle.rules.specs.Reading.{afterSecurity, summarize}
 use Rattle.reading.proofs.section.summarize.Statement.{statement}
 use Rattle.reading.proofs.section.summarize.Tie as tie
 
-security-at-requires : tie.Need-security-at-requires
-security-at-requires c κs = search needs
-
-enum-known-r : tie.Need-enum-known-r
-enum-known-r c = search needs
-
-enum-known-security : tie.Need-enum-known-security
-enum-known-security c = search needs
-
-read-properties-requires : tie.Need-read-properties-requires
-read-properties-requires c κs = search needs
-
 returns : tie.Need-returns
-unfolding summarize afterSecurity
-returns c = simp (← c .before .before .before .security-at .ensures, c .before .r .given .1)
+returns c =
+    let a = the tie.Start (search) .args in
+    let r = the tie.After-judge (search) .judge .ensures in
+    let some = subst (λ (x : Refusal). ¬ (x .number ≡ 0)) r (c .if1 .taken) in
+    ap Refused r ∙ sym (summarize-refused (a .security-first) (now (a .s)) some)
+
+summary-at-requires : tie.Need-summary-at-requires
+summary-at-requires c κs = sym (ap (λ (x : Refusal). x .number) (the tie.After-judge (search) .judge .ensures)) ∙ c .if1 .left
 
 returns-2 : tie.Need-returns-2
-unfolding summarize afterSecurity
 returns-2 c =
-    simp (← c .before .before .before .before .security-at .ensures, c .before .before .security .given .1)
-    (c .read-properties .ensures)
+    let a = the tie.Start (search) .args in
+    let none = sym (ap (λ (x : Refusal). x .number) (the tie.After-judge (search) .judge .ensures)) ∙ the tie.Else1 (search) .if1 .left in
+    ap Accepted (c .summary-at .ensures) ∙ sym (summarize-passed (a .security-first) (now (a .s)) none)
 
 pub summarize-spec : {M : Type 1} → statement M
 summarize-spec =
     tie.close
     (tie.spec
-    security-at-requires
-    enum-known-r
-    enum-known-security
-    read-properties-requires
+    (λ c κs. search needs)
     returns
+    summary-at-requires
     returns-2)

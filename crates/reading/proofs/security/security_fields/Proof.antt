@@ -1,63 +1,58 @@
--- Each field is the number that its read promises.
-use borrow.Author.Needs.{needs}
+-- Each field is the number that its read promises; numbers of 16 and 32 bits are small.
+use mathlib.Core.Path.{ap, subst, sym, _∙_}
+use denote.Ref.{now}
+use native.Mathlib.Omega.{arith}
+use Rattle.octets.specs.Number.{le}
+use Rattle.octets.proofs.Laws.Part.{whole-out}
+use Rattle.octets.proofs.Laws.Steps.{the}
 use Rattle.rules.specs.Security.{securityFields}
+use Rattle.rules.specs.Summary.{noSecurity}
+use Rattle.reading.specs.Fields.{SecuritySizes, securityRead}
+use Rattle.reading.proofs.Laws.Fields.{security-read}
+use borrow.Author.Needs.{needs}
 use Rattle.reading.proofs.security.security_fields.Statement.{statement}
 use Rattle.reading.proofs.security.security_fields.Tie as tie
 
-u16-at-requires : tie.Need-u16-at-requires
-u16-at-requires c κs = search needs
-
-cast-t4 : tie.Need-cast-t4
-cast-t4 c = search needs
-
-u16-at-requires-2 : tie.Need-u16-at-requires-2
-u16-at-requires-2 c κs = search needs
-
-cast-t6 : tie.Need-cast-t6
-cast-t6 c = search needs
-
-u16-at-requires-3 : tie.Need-u16-at-requires-3
-u16-at-requires-3 c κs = search needs
-
-cast-t9 : tie.Need-cast-t9
-cast-t9 c = search needs
-
-u16-at-requires-4 : tie.Need-u16-at-requires-4
-u16-at-requires-4 c κs = search needs
-
-cast-t12 : tie.Need-cast-t12
-cast-t12 c = search needs
-
-u32-at-requires : tie.Need-u32-at-requires
-u32-at-requires c κs = search needs
-
-cast-t15 : tie.Need-cast-t15
-cast-t15 c = search needs
-
-u32-at-requires-2 : tie.Need-u32-at-requires-2
-u32-at-requires-2 c κs = search needs
-
-cast-t18 : tie.Need-cast-t18
-cast-t18 c = search needs
-
 returns : tie.Need-returns
+unfolding securityRead securityFields noSecurity le
+returns c =
+    let s = now (the tie.Start (search) .args .s) in
+    let zero = c .no-fields .ensures in (
+      zero ∙ sym (ap securityFields (whole-out 16 s (search needs))),
+      subst SecuritySizes (sym zero) (omega arith),
+    )
+
+returns-2 : tie.Need-returns-2
 unfolding securityFields
-returns c = simp (← c .before .before .before .before .before .u16-at .ensures, ← c .before .before .before .before .u16-at2 .ensures, ← c .before .before .before .u16-at3 .ensures, ← c .before .before .u16-at4 .ensures, ← c .before .u32-at .ensures, ← c .u32-at2 .ensures)
+returns-2 c = (
+  rw (security-read (now (the tie.Start (search) .args .s)) (omega arith))
+      (simp (
+        ← the tie.After-u16-in (search) .u16-in .ensures,
+        ← the tie.After-u16-in2 (search) .u16-in2 .ensures,
+        ← the tie.After-u16-in3 (search) .u16-in3 .ensures,
+        ← the tie.After-u16-in4 (search) .u16-in4 .ensures,
+        ← the tie.After-u32-in (search) .u32-in .ensures,
+        ← c .u32-in2 .ensures,
+      )),
+  omega arith,
+)
 
 pub security-fields-spec : {M : Type 1} → statement M
 security-fields-spec =
     tie.close
     (tie.spec
-    u16-at-requires
-    cast-t4
-    u16-at-requires-2
-    cast-t6
-    u16-at-requires-3
-    cast-t9
-    u16-at-requires-4
-    cast-t12
-    u32-at-requires
-    cast-t15
-    u32-at-requires-2
-    cast-t18
-    returns)
+    (λ c κs. search needs)
+    returns
+    (λ c κs. search needs)
+    (λ c. search needs)
+    (λ c κs. search needs)
+    (λ c. search needs)
+    (λ c κs. search needs)
+    (λ c. search needs)
+    (λ c κs. search needs)
+    (λ c. search needs)
+    (λ c κs. search needs)
+    (λ c. search needs)
+    (λ c κs. search needs)
+    (λ c. search needs)
+    returns-2)

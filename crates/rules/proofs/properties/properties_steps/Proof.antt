@@ -10,14 +10,9 @@ unfolding propertiesSteps
 properties-steps-spec =
     tie.close
     (tie.spec
+    (λ c. search steps depth 20)
     (λ c κs. search needs)
-    (λ c. search steps depth 20)  -- P2
-    (λ c κs. search needs)
-    (λ c κs. search needs)
-    (λ c. search steps depth 20)  -- P3
-    (λ c κs. search needs)
-    (λ c. search steps depth 20)  -- P4
-    (λ c κs. search needs)
-    (λ c. search steps depth 20)  -- P4
-    (λ c κs. search needs)
-    (λ c. search steps depth 20))  -- P5
+    (λ c. search steps depth 20)
+    (λ c. search steps depth 20)
+    (λ c. search steps depth 20)
+    (λ c. search steps depth 20))

@@ -1,42 +1,28 @@
 -- The tests that led to each answer pick its case of `identityHead`.
-use borrow.Author.Tests.{eq-eqb, ne-eqb}
+use mathlib.Core.Path.{ap₂}
+use lib.Dec.{eqb}
 use borrow.Author.Needs.{needs}
+use Rattle.octets.proofs.Laws.Steps.{and-next, equal, not-failed, or-next, steps, the, told, told-equal}
 use Rattle.rules.specs.Security.{identityHead}
 use Rattle.rules.proofs.security.identity_head_fits.Statement.{statement}
 use Rattle.rules.proofs.security.identity_head_fits.Tie as tie
 
-returns : tie.Need-returns
-unfolding identityHead
-returns c = simp (ne-eqb _ _ (c .if1 .taken))
-
-u8-at-requires : tie.Need-u8-at-requires
-u8-at-requires c κs = search needs
-
-returns-2 : tie.Need-returns-2
-unfolding identityHead
-returns-2 c = simp (eq-eqb _ _ (c .before .before .if1 .left), ← c .before .u8-at .ensures, ne-eqb _ _ (c .if2 .taken))
-
-u8-at-requires-2 : tie.Need-u8-at-requires-2
-u8-at-requires-2 c κs = search needs
-
-cast-result : tie.Need-cast-result
-cast-result c = search needs
-
-sub-authorities-requires : tie.Need-sub-authorities-requires
-sub-authorities-requires c κs = search needs
-
 returns-3 : tie.Need-returns-3
 unfolding identityHead
-returns-3 c = simp (eq-eqb _ _ (c .before .before .before .before .if1 .left), ← c .before .before .before .u8-at .ensures, eq-eqb _ _ (c .before .before .if2 .left), ← c .before .u8-at2 .ensures, ← c .sub-authorities .ensures)
+returns-3 c =
+    or-next _ _ _ (not-failed _ (equal _ _ (the tie.Else1 (search) .if1 .left)))
+    (and-next _ _ _ (told-equal _ _ _ (the tie.After-u8-at (search) .u8-at .ensures) (the tie.Else2 (search) .if2 .left))
+    (ap₂ eqb (the tie.After-u8-at2 (search) .u8-at2 .ensures) (c .sub-authorities .ensures)))
 
 pub identity-head-fits-spec : {M : Type 1} → statement M
+unfolding identityHead
 identity-head-fits-spec =
     tie.close
     (tie.spec
-    returns
-    u8-at-requires
-    returns-2
-    u8-at-requires-2
-    cast-result
-    sub-authorities-requires
+    (λ c. search steps depth 20)
+    (λ c κs. search needs)
+    (λ c. search (steps, told) depth 20)
+    (λ c κs. search needs)
+    (λ c. search needs)
+    (λ c κs. search needs)
     returns-3)

@@ -1,0 +1,119 @@
+-- A difference in header, properties or contents refutes `SameSummary`; else it holds.
+use Prim.Native.Nat.{ℕ, _≤_}
+use mathlib.Core.Path.{_≡_, ap, ap₂, sym, subst, _∙_}
+use mathlib.Core.Bool.{Bool}
+use mathlib.Core.List.{List}
+use denote.Ref.{now}
+use Rattle.octets.proofs.Laws.Steps.{the}
+use Rattle.rules.specs.Reading.{fieldsAt, headerAt, startAt}
+use Rattle.rules.specs.Refusal.{limit}
+use Rattle.rules.specs.declared.properties.PropertiesFields.{PropertiesFields}
+use Rattle.rules.specs.declared.security.SecurityHeader.{SecurityHeader}
+use Rattle.reading.specs.Fields.{propertiesRead}
+use Rattle.reading.specs.Same.{SameContents, SameHeader}
+use Rattle.reading.proofs.Laws.Decided.{Decides, fails, holds, refuted, shown}
+use Rattle.reading.proofs.Laws.Fields.{Passed, accepted}
+use Rattle.reading.proofs.Laws.Same.{Contents, same-summary, same-summary-contents, same-summary-header, same-summary-properties}
+use borrow.Author.Needs.{needs}
+use Rattle.reading.proofs.same.same_accepted.Statement.{statement}
+use Rattle.reading.proofs.same.same_accepted.Tie as tie
+
+first : tie.After-header-at2 → Bool
+first c = the tie.Start (search) .args .security-first
+
+left : tie.After-header-at2 → List ℕ
+left c = now (the tie.Start (search) .args .a)
+
+right : tie.After-header-at2 → List ℕ
+right c = now (the tie.Start (search) .args .b)
+
+left-read : (c : tie.After-header-at2) → Passed (first c) (left c)
+unfolding first left
+left-read c = let s : tie.Start = search in accepted (s .args .security-first) (now (s .args .a)) (s .pre .0)
+
+right-read : (c : tie.After-header-at2) → Passed (first c) (right c)
+unfolding first right
+right-read c = let s : tie.Start = search in accepted (s .args .security-first) (now (s .args .b)) (s .pre .1)
+
+-- what is compared is what the definitions read
+headers : (c : tie.After-same-header)
+    → Decides (c .same-header .result) (SameHeader (headerAt (first (c .before)) (left (c .before))) (headerAt (first (c .before)) (right (c .before))))
+unfolding first left right
+headers c = rw (c .before .before .header-at .ensures, c .before .header-at2 .ensures) at (c .same-header .ensures)
+
+returns : tie.Need-returns
+unfolding first left right
+returns c = fails (λ e. refuted _ (headers (c .before)) (c .if1 .taken) (same-summary-header _ _ _ e))
+
+left-fields : (c : tie.After-properties-fields) → c .properties-fields .result ≡ fieldsAt (first (c .before .before .before)) (left (c .before .before .before))
+unfolding first left startAt
+left-fields c =
+    let h = c .before .before .before in
+    c .properties-fields .ensures .0
+    ∙ ap (λ (x : SecurityHeader). propertiesRead (left h) (x .parts .length .0)) (h .before .header-at .ensures)
+    ∙ left-read h .fields
+
+right-fields : (c : tie.After-properties-fields2) → c .properties-fields2 .result ≡ fieldsAt (first (c .before .before .before .before)) (right (c .before .before .before .before))
+unfolding first right startAt
+right-fields c =
+    let h = c .before .before .before .before in
+    c .properties-fields2 .ensures .0
+    ∙ ap (λ (x : SecurityHeader). propertiesRead (right h) (x .parts .length .0)) (h .header-at2 .ensures)
+    ∙ right-read h .fields
+
+fields : (c : tie.After-same-properties)
+    → let h = c .before .before .before .before .before in
+    Decides (c .same-properties .result) (fieldsAt (first h) (left h) ≡ fieldsAt (first h) (right h))
+fields c = rw (left-fields (c .before .before), right-fields (c .before)) at (c .same-properties .ensures)
+
+returns-2 : tie.Need-returns-2
+unfolding first left right
+returns-2 c = fails (λ e. refuted _ (fields (c .before)) (c .if2 .taken) (same-summary-properties _ _ _ e))
+
+same-contents-requires : tie.Need-same-contents-requires
+unfolding first left right startAt
+same-contents-requires c κs =
+    let h : tie.After-header-at2 = search in
+    let length : SecurityHeader → ℕ = (λ x. x .parts .length .0) in (
+      subst (λ (n : ℕ). n ≤ limit) (sym (ap length (h .before .header-at .ensures))) (left-read h .start .small),
+      subst (λ (n : ℕ). n ≤ limit) (sym (ap length (h .header-at2 .ensures))) (right-read h .start .small),
+    )
+
+contents : (c : tie.After-same-contents)
+    → let h = c .before .before .before .before .before .before .before in
+    Decides (c .same-contents .result) (Contents (first h) (left h) (right h))
+unfolding first left right
+contents c =
+    let h = c .before .before .before .before .before .before .before in
+    rw (h .before .header-at .ensures, h .header-at2 .ensures, left-fields (c .before .before .before .before), right-fields (c .before .before .before))
+    at (c .same-contents .ensures)
+
+returns-3 : tie.Need-returns-3
+unfolding first left right
+returns-3 c = fails (λ e. refuted _ (contents (c .before)) (c .if3 .taken) (same-summary-contents _ _ _ e))
+
+returns-4 : tie.Need-returns-4
+unfolding first left right
+returns-4 c =
+    let s : tie.Start = search in
+    holds
+    (same-summary _ _ _ (s .pre .0) (s .pre .1)
+    (shown _ (headers (search)) (the tie.Else1 (search) .if1 .left))
+    (shown _ (fields (search)) (the tie.Else2 (search) .if2 .left))
+    (shown _ (contents (search)) (c .if3 .left)))
+
+pub same-accepted-spec : {M : Type 1} → statement M
+same-accepted-spec =
+    tie.close
+    (tie.spec
+    (λ c κs. search needs)
+    (λ c κs. search needs)
+    (λ c κs. search needs)
+    returns
+    (λ c κs. search needs)
+    (λ c κs. search needs)
+    (λ c κs. search needs)
+    returns-2
+    same-contents-requires
+    returns-3
+    returns-4)

@@ -1,0 +1,19 @@
+-- Each field is what its function promises.
+use Rattle.octets.proofs.Laws.Steps.{the}
+use Rattle.rules.specs.Summary.{summaryOf}
+use borrow.Author.Needs.{needs}
+use Rattle.reading.proofs.section.summary_of.Statement.{statement}
+use Rattle.reading.proofs.section.summary_of.Tie as tie
+
+returns : tie.Need-returns
+unfolding summaryOf
+returns c = simp (the tie.After-properties-parts (search) .properties-parts .ensures, the tie.After-authentication-fails (search) .authentication-fails .ensures, c .decryption-fails .ensures)
+
+pub summary-of-spec : {M : Type 1} → statement M
+summary-of-spec =
+    tie.close
+    (tie.spec
+    (λ c κs. search needs)
+    (λ c κs. search needs)
+    (λ c κs. search needs)
+    returns)

@@ -1,4 +1,5 @@
 pub mod Number
+pub mod Octets
 pub mod Over
 pub mod Padding
 pub mod Part

@@ -3,7 +3,8 @@ use Prim.Native.Nat.{ℕ, _-_, _<_}
 use mathlib.Core.Path.{_≡_}
 use mathlib.Core.Bool.{Bool, true}
 use mathlib.Core.List.{List, _++_}
-use lib.ListN.{length, getD, take, replicate}
+use lib.ListN.{length, take, replicate}
+use Rattle.octets.specs.Octets.{Octets}
 use Rattle.rules.specs.Judged.{carried, copyOf, judgedIdentity, masked}
 use Rattle.rules.specs.Reading.{read}
 use Rattle.rules.specs.Refusal.{bytes}
@@ -13,9 +14,6 @@ use Rattle.rules.specs.declared.section.Section.{Section}
 use Rattle.writing.specs.Given.{Given, propertiesGiven, securityGiven}
 use Rattle.writing.specs.Writing.{placeSection, sectionBytes}
 use Rattle.writing.specs.declared.values.Placed.the-variants.{At}
-
-abbrev pub Octets : List ℕ → Type 0
-Octets s = (i : ℕ) → getD s i 0 < 256
 
 -- the values fit their fields, as their types in the code have it
 pub record WellFormed (g : Given) : Type 0 where

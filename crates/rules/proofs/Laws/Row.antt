@@ -10,14 +10,12 @@ use lib.ListN.{length, getD, take, drop, replicate, length-append, length-replic
 use lib.Pow.{mod-pow-add, mod-mod-pow, pow-pos}
 use lib.Seq.{drop-drop, take-at, drop-cons, getD-drop, getD-take}
 use Rattle.octets.specs.Number.{le, toLe}
+use Rattle.octets.specs.Octets.{Octets}
 use Rattle.octets.proofs.Laws.Number.{le-cong, le-drop, le-lt, le-toLe, length-toLe, toLe-le}
 use Rattle.octets.proofs.Laws.Part.{drop-next}
 use Rattle.rules.specs.Judged.{masked}
 use Rattle.rules.specs.Row.{Field, number, low, private, width, rowSize, fieldBytes, rowBytes, lowest, fieldBits, rowBits}
 use Rattle.rules.proofs.Laws.Masked.{Alike, masked-alike, masked-append, masked-none, masked-whole}
-
-abbrev pub Octets : List ℕ → Type 0
-Octets s = (i : ℕ) → getD s i 0 < 256
 
 -- the values fit their fields
 unfoldable pub FieldFits : {F : Type 0} → Field F → F → Type 0

@@ -8,6 +8,7 @@ use native.Mathlib.Omega.{arith}
 use borrow.Author.Tests.{le-ltb}
 use lib.ListN.{length}
 use Rattle.octets.specs.Number.{le}
+use Rattle.octets.specs.Octets.{Octets}
 use Rattle.octets.proofs.Laws.Number.{le-lt}
 use Rattle.rules.specs.Judged.{masked, propertiesBits, sectionBits, securityBits}
 use Rattle.rules.specs.Security.{ST, identityHead, identitySize, securityContents, securityFields, securityLength, securityParts, securitySteps}
@@ -26,7 +27,7 @@ use Rattle.rules.specs.declared.security.SecurityLayout.the-variants.{Fits}
 use Rattle.rules.specs.declared.properties.PropertiesLayout.the-variants.{Fits as Properties·Fits}
 use Rattle.rules.proofs.Laws.Accepted.{HeaderPassed, SectionPassed, SecurityPassed, properties-fits, section-passed, security-fields, security-fits}
 use Rattle.writing.specs.Given.{Given, propertiesGiven, securityGiven}
-use Rattle.writing.specs.Theorems.{Octets, givenOf}
+use Rattle.writing.specs.Theorems.{givenOf}
 use Rattle.writing.specs.Writing.{placeSection, propertiesBytes, sectionBytes, securityBytes, tooLarge}
 use Rattle.writing.specs.declared.values.Placed.the-variants.{At}
 use Rattle.writing.proofs.Laws.GivenOf.{givenAgain, properties-of, propertiesGiven-again, security-of, securityGiven-again}

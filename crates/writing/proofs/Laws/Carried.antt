@@ -5,6 +5,7 @@ use mathlib.Core.List.{List}
 use native.Mathlib.Omega.{arith}
 use lib.ListN.{length, replicate}
 use Rattle.octets.specs.Number.{toLe}
+use Rattle.octets.specs.Octets.{Octets}
 use Rattle.octets.specs.Padding.{padded}
 use Rattle.octets.proofs.Laws.Number.{le-drop}
 use Rattle.rules.specs.Judged.{judgedIdentity, partBits, propertiesBits, securityBits}
@@ -12,7 +13,6 @@ use Rattle.rules.specs.Properties.{bodyAt, extensionAt, labelBytes, propertiesL
 use Rattle.rules.specs.Security.{certAt, keyAt, providerAt, securityLength, securityParts, signatureAt}
 use Rattle.rules.proofs.Laws.Judged.{judgedIdentity-le}
 use Rattle.writing.specs.Given.{Given, propertiesGiven, securityGiven}
-use Rattle.writing.specs.Theorems.{Octets}
 use Rattle.writing.specs.Writing.{propertiesBytes, securityBytes}
 use Rattle.writing.proofs.Laws.PropertiesShown.{PropertiesOf, properties-shown}
 use Rattle.writing.proofs.Laws.SecurityShown.{SecurityOf, security-shown}

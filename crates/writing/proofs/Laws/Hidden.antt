@@ -8,6 +8,7 @@ use lib.ListN.{length, getD, take, drop, replicate, List·getD-append, length-ap
 use lib.Dec.{eqb}
 use lib.Seq.{getD-take, length-take-le, take-take}
 use Rattle.octets.specs.Number.{toLe}
+use Rattle.octets.specs.Octets.{Octets}
 use Rattle.octets.specs.Padding.{padded}
 use Rattle.octets.proofs.Laws.Part.{within-in}
 use Rattle.rules.specs.Judged.{judgedIdentity, partBits, propertiesBits, securityBits}
@@ -17,7 +18,7 @@ use Rattle.rules.specs.declared.security.SecurityFields.{SecurityFields}
 use Rattle.rules.proofs.Laws.Accepted.{identity-le}
 use Rattle.rules.proofs.Laws.Judged.{judgedIdentity-le}
 use Rattle.writing.specs.Given.{Given, propertiesGiven, securityGiven}
-use Rattle.writing.specs.Theorems.{Octets, hidden}
+use Rattle.writing.specs.Theorems.{hidden}
 use Rattle.writing.specs.Writing.{propertiesBytes, securityBytes}
 use Rattle.writing.proofs.Laws.PropertiesShown.{PropertiesOf, properties-shown}
 use Rattle.writing.proofs.Laws.SecurityShown.{SecurityOf, security-shown}

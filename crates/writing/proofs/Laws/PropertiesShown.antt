@@ -5,6 +5,7 @@ use mathlib.Core.List.{List, _++_}
 use native.Mathlib.Omega.{arith}
 use lib.ListN.{length, drop, replicate, length-append, length-drop, length-replicate}
 use Rattle.octets.specs.Number.{le, toLe}
+use Rattle.octets.specs.Octets.{Octets}
 use Rattle.octets.specs.Padding.{padded}
 use Rattle.octets.specs.Part.{within}
 use Rattle.rules.specs.Properties.{bodyAt, extensionAt, labelBytes, propertiesFields, propertiesLength, propertiesRow}
@@ -13,7 +14,6 @@ use Rattle.rules.specs.declared.properties.PropertiesFields.{PropertiesFields}
 use Rattle.rules.proofs.Laws.Named.{properties-reads, properties-size}
 use Rattle.rules.proofs.Laws.Row.{keep}
 use Rattle.writing.specs.Given.{Given, fixed, propertiesGiven}
-use Rattle.writing.specs.Theorems.{Octets}
 use Rattle.writing.specs.Writing.{propertiesBytes, propertiesFixed}
 use Rattle.writing.proofs.Laws.Parts.{PropertiesPartsAt}
 use Rattle.writing.proofs.Laws.Row.{length-propertiesFixed}

@@ -4,13 +4,13 @@ use mathlib.Core.Path.{_≡_, ap, _∙_}
 use mathlib.Core.List.{List, _++_}
 use native.Mathlib.Omega.{arith}
 use lib.ListN.{length}
+use Rattle.octets.specs.Octets.{Octets}
 use Rattle.rules.specs.Row.{rowBits}
 use Rattle.rules.specs.Security.{certAt, keyAt, providerAt, securityFields, securityLength, securityRow, signatureAt}
 use Rattle.rules.specs.declared.security.SecurityFields.{SecurityFields}
 use Rattle.rules.proofs.Laws.Named.{security-reads, security-size}
 use Rattle.rules.proofs.Laws.Row.{keep}
 use Rattle.writing.specs.Given.{Given, securityGiven}
-use Rattle.writing.specs.Theorems.{Octets}
 use Rattle.writing.specs.Writing.{securityBytes, securityFixed}
 use Rattle.writing.proofs.Laws.Parts.{SecurityPartsIn}
 use Rattle.writing.proofs.Laws.Row.{length-securityFixed}

@@ -7,6 +7,7 @@ use native.Mathlib.Omega.{arith}
 use lib.ListN.{length, take, drop, replicate, length-append, length-drop, length-replicate, replicate-append-replicate}
 use lib.Seq.{drop-drop, getD-drop, length-take-le}
 use Rattle.octets.specs.Number.{le, toLe}
+use Rattle.octets.specs.Octets.{Octets}
 use Rattle.octets.specs.Padding.{padded, padding}
 use Rattle.octets.specs.Part.{within}
 use Rattle.octets.proofs.Laws.Number.{toLe-le}
@@ -15,7 +16,6 @@ use Rattle.rules.specs.Judged.{masked}
 use Rattle.rules.specs.Row.{Field, rowBits, rowBytes, rowSize}
 use Rattle.rules.proofs.Laws.Masked.{length-masked-le, masked-append, masked-none, masked-whole}
 use Rattle.rules.proofs.Laws.Row.{Reads, keep, length-rowBits, row-again}
-use Rattle.writing.specs.Theorems.{Octets}
 use Rattle.writing.specs.Writing.{paddedPart}
 use Rattle.writing.proofs.Laws.Row.{length-paddedPart}
 

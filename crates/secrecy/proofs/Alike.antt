@@ -6,13 +6,13 @@ use mathlib.Core.List.{List, _++_}
 use native.Mathlib.Nat.{mod-eq-of-lt}
 use lib.ListN.{length, getD, drop, replicate, length-replicate}
 use lib.Seq.{getD-drop, drop-drop, ext-getD}
+use Rattle.octets.specs.Octets.{Octets}
 use Rattle.octets.specs.Padding.{padded, padding}
 use Rattle.octets.specs.Part.{within}
 use Rattle.octets.proofs.Laws.Part.{length-within, getD-within}
 use Rattle.rules.specs.Judged.{partBits}
 use Rattle.rules.proofs.Laws.Judged.{length-partBits}
 use Rattle.rules.proofs.Laws.Masked.{Alike, AlikeAt, alike-append, alike-at-none, alike-replicate}
-use Rattle.secrecy.specs.Demand3.{Octets}
 
 -- a mask that counts no bit
 pub alike-none : (n : ℕ) (s t : List ℕ) → Alike (replicate n 0) s t

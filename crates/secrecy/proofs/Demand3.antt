@@ -1,16 +1,20 @@
--- Demand 3, from three laws: an input is accepted exactly where it has passed (`section-passed`), one that is like it under
--- its mask reads the same (`reads`), and two of which reading tells the same are alike (`told`).
-use Prim.Native.Nat.{ℕ, zero, suc, _^_, _≤_}
+-- Demand 3, from four laws: an input is accepted exactly where it has passed (`section-passed`); inputs are alike under its
+-- mask exactly where all that is judged is the same (`section-alike`); one where it is reads the same (`reads`), and two
+-- inputs of which reading tells the same are such (`told`).
+use Prim.Native.Nat.{ℕ, _^_, _≤_}
 use mathlib.Core.Path.{_≡_, sym, ap, subst, _∙_}
 use mathlib.Core.Logic.{_↔_}
 use mathlib.Core.Bool.{Bool}
-use mathlib.Core.List.{List, [], _∷_, _++_}
+use mathlib.Core.List.{List, [], _++_, append-nil}
 use native.Mathlib.Nat.{lt-of-le-of-lt, mod-le}
 use native.Mathlib.Omega.{arith}
 use borrow.Author.Tests.{lt-ltb, le-ltb}
-use lib.ListN.{length, getD, length-append}
+use lib.ListN.{length, getD, take, drop, length-append, List·getD-append}
+use lib.Seq.{take-at, drop-at}
+use Rattle.octets.specs.Octets.{Octets}
 use Rattle.rules.specs.Judged.{Agrees, copyOf, judged}
 use Rattle.rules.specs.Reading.{SameSummary, summarize}
+use Rattle.rules.specs.Summary.{labelOf, providerNameOf}
 use Rattle.rules.specs.Support.{supportAnswer, supportBytes, copyAnswer, copyBytes}
 use Rattle.rules.specs.declared.section.Summarized.the-variants.{Accepted}
 use Rattle.rules.specs.declared.section.Summary.{Summary}
@@ -18,13 +22,14 @@ use Rattle.rules.proofs.Laws.Accepted.{SectionPassed, section-passed}
 use Rattle.rules.proofs.Laws.Bits.{bits-mod, mod-bits, bit-mod, bit-mod-above}
 use Rattle.rules.proofs.Laws.Judged.{judged-le, length-judged}
 use Rattle.rules.proofs.Laws.Masked.{Alike, alike-masked, getD-masked, length-masked-le, masked-alike}
-use Rattle.secrecy.proofs.ReadAlike.{Reads, reads}
+use Rattle.secrecy.proofs.ReadAlike.{Reads, reads, reads-accepted, reads-same}
+use Rattle.secrecy.proofs.SameBytes.{section-same}
+use Rattle.secrecy.proofs.Section.{SameSection, section-alike}
 use Rattle.secrecy.proofs.ToldAlike.{told}
-use Rattle.secrecy.specs.Demand3.{Octets, CopyRefused, CopyIsMasked, Demand3}
+use Rattle.secrecy.specs.Demand3.{CopyIsMasked, CopyRefused, Demand3, sectionLength}
 
 -- agreement bit by bit is agreement under the mask
-agrees-alike : (m : Summary) (s t : List ℕ)
-    → Agrees m s t ↔ ((m .parts .«section_length» .0 ≤ length t) × Alike (judged m) s t)
+agrees-alike : (m : Summary) (s t : List ℕ) → Agrees m s t ↔ ((sectionLength m ≤ length t) × Alike (judged m) s t)
 agrees-alike m s t = (
   λ a. (
     a .reaches,
@@ -36,21 +41,6 @@ agrees-alike m s t = (
   },
 )
 
--- the copier's answer is the reader's, and then the test of the output's length
-copy-refused : (first : Bool) (s out : List ℕ) → CopyRefused first s out
-unfolding supportAnswer supportBytes copyAnswer copyBytes
-copy-refused first s out =
-    record {
-      reading = λ r e. (rw e, rw e);
-      short = λ m e l. let b = lt-ltb (length out) (m .parts .«section_length» .0) l in (rw (e, b), rw (e, b));
-      room = λ m e l. let b = le-ltb (length out) (m .parts .«section_length» .0) l in (rw (e, b), rw (e, b));
-    }
-
-octets-append : (x y : List ℕ) → Octets x → Octets y → Octets (x ++ y)
-octets-append [] y bx by i = by i
-octets-append (b ∷ x) y bx by zero = bx 0
-octets-append (b ∷ x) y bx by (suc i) = octets-append x y (λ j. bx (suc j)) by i
-
 module _ (first : Bool) (s : List ℕ) (m : Summary) (e : summarize first s ≡ Accepted m) where
   accepted-passed : SectionPassed first s m
   accepted-passed = section-passed first s m .0 e
@@ -58,46 +48,68 @@ module _ (first : Bool) (s : List ℕ) (m : Summary) (e : summarize first s ≡ 
   mask-le : length (judged m) ≤ length s
   mask-le = judged-le first s m accepted-passed
 
-  copy-masked : CopyIsMasked m s
+  copy-masked : CopyIsMasked m s (copyOf m s)
   unfolding copyOf
   copy-masked =
       record {
         size = length-masked-le (judged m) s mask-le ∙ length-judged first s m accepted-passed;
-        kept = λ i j l. rw getD-masked (bit-mod (getD (judged m) i 0) j (getD s i 0) l);
-        hidden = λ i j l. rw getD-masked (bit-mod-above (getD (judged m) i 0) j (getD s i 0) l);
+        kept = λ i j l. rw getD-masked (bit-mod (getD (judged m) i 0) j (getD s i 0) (omega arith));
+        hidden = λ i j l. rw getD-masked (bit-mod-above (getD (judged m) i 0) j (getD s i 0) (omega arith));
       }
 
-  reads-accepted : (t : List ℕ) → Reads first m s t → summarize first t ≡ Accepted m
-  reads-accepted t r = section-passed first t m .1 (r .passed)
+  -- given room, the copy is what stands first in the output
+  module _ (out : List ℕ) (room : sectionLength m ≤ length out) where
+    copy-written : supportBytes first s out ≡ copyOf m s ++ drop (sectionLength m) out
+    unfolding supportBytes copyBytes
+    copy-written = rw (e, le-ltb (length out) (sectionLength m) room)
 
-  reads-same : (t : List ℕ) → Reads first m s t → SameSummary first s t
-  reads-same t r =
-      record { summary = m; left = e; right = reads-accepted t r; label = r .label; «provider_name» = r .name }
+    copy-first : take (sectionLength m) (supportBytes first s out) ≡ copyOf m s
+    copy-first = rw copy-written (take-at (copyOf m s) (drop (sectionLength m) out) (sectionLength m) (copy-masked .size))
 
-  -- an input that agrees reads the same
+    copy-behind : drop (sectionLength m) (supportBytes first s out) ≡ drop (sectionLength m) out
+    copy-behind = rw copy-written (drop-at (copyOf m s) (drop (sectionLength m) out) (sectionLength m) (copy-masked .size))
+
+  -- an input agrees exactly where all that is judged is the same
+  agrees-same : (t : List ℕ) → Octets s → Octets t → sectionLength m ≤ length t → Agrees m s t ↔ SameSection first m s t
+  agrees-same t bs bt room =
+      let alike = agrees-alike m s t in
+      let judged = section-alike first (record { left = bs; right = bt }) m accepted-passed room in
+      (λ a. judged .0 (alike .0 a .1), λ j. alike .1 (room, judged .1 j))
+
+  -- and then reads the same
   agrees-reads : (t : List ℕ) → Octets s → Octets t → Agrees m s t → Reads first m s t
-  agrees-reads t bs bt a =
-      let alike = agrees-alike m s t .0 a in
-      reads first (record { left = bs; right = bt }) m accepted-passed (alike .0) (alike .1)
+  agrees-reads t bs bt a = reads first s t m accepted-passed (a .reaches) (agrees-same t bs bt (a .reaches) .0 a)
 
   -- so does the copy
-  copy-reads : (rest : List ℕ) → Octets s → Octets rest → Reads first m s (copyOf m s ++ rest)
+  copy-reads : Octets s → Reads first m s (copyOf m s)
   unfolding copyOf
-  copy-reads rest bs br =
-      let copied : Octets (copyOf m s) =
+  copy-reads bs =
+      let bytes : Octets (copyOf m s) =
       λ i. rw getD-masked (lt-of-le-of-lt (mod-le (getD s i 0) (2 ^ getD (judged m) i 0)) (bs i)) in
-      reads first (record { left = bs; right = octets-append (copyOf m s) rest copied br }) m accepted-passed
-      (rw length-append (omega (arith, copy-masked .size))) (alike-masked (judged m) s rest mask-le)
+      agrees-reads (copyOf m s) bs bytes
+      (agrees-alike m s (copyOf m s) .1
+      (omega (arith, copy-masked .size), rw append-nil at (alike-masked (judged m) s [] mask-le)))
+
+  -- whatever follows
+  followed-reads : (rest : List ℕ) → Octets s → Reads first m s (copyOf m s ++ rest)
+  followed-reads rest bs =
+      let copy = copyOf m s in
+      let own = copy-reads bs in
+      let room : sectionLength m ≤ length (copy ++ rest) = rw length-append (omega (arith, copy-masked .size)) in
+      let same = section-same first copy (copy ++ rest) m (own .passed) room
+      (λ i l. sym (List·getD-append copy rest 0 i (omega (arith, copy-masked .size)))) in
+      let all = reads first copy (copy ++ rest) m (own .passed) room same in
+      record { passed = all .passed; label = own .label ∙ all .label; name = own .name ∙ all .name }
 
   -- an input with the same summary, label and provider name agrees
   same-agrees : (t : List ℕ) → Octets s → Octets t → SameSummary first s t → Agrees m s t
   same-agrees t bs bt c =
       let own : c .summary ≡ m = cc in
-      let left = section-passed first s (c .summary) .0 (c .left) in
-      let right = section-passed first t (c .summary) .0 (c .right) in
-      let alike = told first (record { left = bs; right = bt }) (c .summary) left right (c .label) (c .«provider_name») in
-      subst (λ (x : Summary). Agrees x s t) own
-      (agrees-alike (c .summary) s t .1 (right .properties .reaches, alike))
+      let right = section-passed first t m .0 (c .right ∙ ap Accepted own) in
+      agrees-same t bs bt (right .properties .reaches) .1
+      (told first (record { left = bs; right = bt }) m accepted-passed right
+      (subst (λ (x : Summary). labelOf x s ≡ labelOf x t) own (c .label))
+      (subst (λ (x : Summary). providerNameOf x s ≡ providerNameOf x t) own (c .«provider_name»)))
 
   -- of two inputs with one summary, the copies are the same exactly where they agree
   copies-agree : (t : List ℕ) → summarize first t ≡ Accepted m → (copyOf m s ≡ copyOf m t) ↔ Agrees m s t
@@ -109,18 +121,32 @@ module _ (first : Bool) (s : List ℕ) (m : Summary) (e : summarize first s ≡ 
         λ a. masks .1 (agrees-alike m s t .0 a .1),
       )
 
+-- the copier's answer is the reader's, and then the test of the output's length
+copy-refused : (first : Bool) (s out : List ℕ) → CopyRefused first s out
+unfolding supportAnswer supportBytes copyAnswer copyBytes
+copy-refused first s out =
+    record {
+      reading = λ r e. (rw e, rw e);
+      short = λ m e l. let b = lt-ltb (length out) (sectionLength m) (omega arith) in (rw (e, b), rw (e, b));
+      room = λ m e l. (
+        rw (e, le-ltb (length out) (sectionLength m) (omega arith)),
+        subst (CopyIsMasked m s) (sym (copy-first first s m e out (omega arith))) (copy-masked first s m e),
+        copy-behind first s m e out (omega arith),
+      );
+    }
+
 module _ (first : Bool) (s t : List ℕ) (m n : Summary) (bs : Octets s) (bt : Octets t)
     (es : summarize first s ≡ Accepted m) (et : summarize first t ≡ Accepted n) where
   -- copies that are the same bytes read the same, so the two summaries are one
   copies-one : copyOf m s ≡ copyOf n t → n ≡ m
   copies-one c =
-      let left = reads-accepted first s m es (copyOf m s ++ []) (copy-reads first s m es [] bs (λ i. omega arith)) in
-      let right = reads-accepted first t n et (copyOf n t ++ []) (copy-reads first t n et [] bt (λ i. omega arith)) in
-      cc (ap (λ (x : List ℕ). summarize first (x ++ [])) c)
+      let left = reads-accepted (copy-reads first s m es bs) in
+      let right = reads-accepted (copy-reads first t n et bt) in
+      cc (ap (summarize first) c)
 
   agree-one : Agrees m s t → n ≡ m
   agree-one a =
-      let right = reads-accepted first s m es t (agrees-reads first s m es t bs bt a) in
+      let right = reads-accepted (agrees-reads first s m es t bs bt a) in
       cc
 
   two-copies : (copyOf m s ≡ copyOf n t) ↔ Agrees m s t
@@ -137,16 +163,19 @@ module _ (first : Bool) (s t : List ℕ) (m n : Summary) (bs : Octets s) (bt : O
 pub demand3 : Demand3
 demand3 =
     record {
-      refused = copy-refused;
-      copy = copy-masked;
+      copied = copy-refused;
       two = λ first s t m n bs bt es et.
           record {
             summaries = (
               same-agrees first s m es t bs bt,
-              λ a. reads-same first s m es t (agrees-reads first s m es t bs bt a),
+              λ a. reads-same es (agrees-reads first s m es t bs bt a),
             );
-            copies = two-copies first s t m n bs bt es et;
+            copies = λ out other hs ht.
+                rw (copy-first first s m es out (omega arith), copy-first first t n et other (omega arith))
+                (two-copies first s t m n bs bt es et);
           };
-      reads = λ first s rest m bs br e. reads-same first s m e (copyOf m s ++ rest) (copy-reads first s m e rest bs br);
-      accepted = λ first s t m bs bt size e a. reads-accepted first s m e t (agrees-reads first s m e t bs bt a);
+      reads = λ first s out m bs e l.
+          reads-same e
+          (rw (copy-written first s m e out (omega arith)) (followed-reads first s m e (drop (sectionLength m) out) bs));
+      accepted = λ first s t m bs bt size e a. reads-accepted (agrees-reads first s m e t bs bt a);
     }

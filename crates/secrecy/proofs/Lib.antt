@@ -2,5 +2,8 @@ pub mod Alike
 pub mod Demand3
 pub mod Properties
 pub mod ReadAlike
+pub mod SameBytes
+pub mod Section
 pub mod Security
 pub mod ToldAlike
+pub mod Unread

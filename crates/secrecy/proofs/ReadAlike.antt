@@ -1,4 +1,4 @@
--- An input that is like an accepted one under its mask reads the same.
+-- An input in which all that is judged is as in an accepted one reads the same.
 use Prim.Native.Nat.{ℕ, _≤_, _<_}
 use mathlib.Core.Path.{_≡_, refl, sym, ap, _∙_}
 use mathlib.Core.Bool.{Bool, true, false, not, _||_, cond}
@@ -9,20 +9,19 @@ use lib.Dec.{eqb}
 use Rattle.octets.specs.Number.{le}
 use Rattle.octets.specs.Padding.{padded}
 use Rattle.octets.proofs.Laws.Part.{within-none}
-use Rattle.rules.specs.Judged.{judged}
 use Rattle.rules.specs.Properties.{propertiesLength}
-use Rattle.rules.specs.Reading.{securityHeader}
+use Rattle.rules.specs.Reading.{SameSummary, securityHeader, summarize}
 use Rattle.rules.specs.Security.{ST, securityFields, securityLength, securityContents, identityHead}
 use Rattle.rules.specs.Summary.{partOf, noSecurity, summaryOf, labelOf, providerNameOf, propertiesAt}
 use Rattle.rules.specs.declared.properties.PropertiesFields.{PropertiesFields}
+use Rattle.rules.specs.declared.section.Summarized.the-variants.{Accepted}
 use Rattle.rules.specs.declared.section.Summary.{Summary}
 use Rattle.rules.specs.declared.security.SecurityHeader.{SecurityHeader}
-use Rattle.rules.proofs.Laws.Accepted.{security-fits, security-fields, properties-fits, SecurityPassed, PropertiesPassed, HeaderPassed, SectionPassed}
-use Rattle.rules.proofs.Laws.Judged.{identity-le-provider, headerMask, alike-judged}
-use Rattle.rules.proofs.Laws.Masked.{Alike}
-use Rattle.secrecy.proofs.Alike.{BothOctets}
-use Rattle.secrecy.proofs.Properties.{SameProperties, properties-alike}
-use Rattle.secrecy.proofs.Security.{SameSecurity, security-alike}
+use Rattle.rules.proofs.Laws.Accepted.{security-fits, security-fields, properties-fits, SecurityPassed, PropertiesPassed, HeaderPassed, SectionPassed, section-passed}
+use Rattle.rules.proofs.Laws.Judged.{identity-le-provider}
+use Rattle.secrecy.proofs.Properties.{SameProperties}
+use Rattle.secrecy.proofs.Section.{SameHeader, SameSection}
+use Rattle.secrecy.proofs.Security.{SameSecurity}
 
 -- what is looked at only where a test says so need be equal only there
 cond-cong : (b : Bool) {x y : ℕ} → (b ≡ true → x ≡ y) → cond b x 0 ≡ cond b y 0
@@ -90,16 +89,12 @@ properties-reads first s t m a e room =
     }
 
 -- with a SecurityHeader first or without
-header-reads : (first : Bool) {s t : List ℕ} → BothOctets s t → (h : SecurityHeader) → HeaderPassed first s h
-    → h .parts .length .0 ≤ length t → Alike (headerMask first h) s t
+header-reads : (first : Bool) (s t : List ℕ) (h : SecurityHeader) → HeaderPassed first s h
+    → h .parts .length .0 ≤ length t → SameHeader first h s t
     → HeaderPassed first t h × (partOf s (h .parts .«provider_info») ≡ partOf t (h .parts .«provider_info»))
 unfolding noSecurity
-header-reads true {s} {t} o h a room alike =
-    let fits = security-fits (h .fields) 0 (h .parts) (a .fits) in
-    let e = security-alike o (h .fields) (h .parts) fits (a .reaches) room .0 alike in
-    (security-reads s t h a e room, e .provider)
-header-reads false {s} {t} o h a room alike =
-    (a, rw a (within-none s 0 ∙ sym (within-none t 0)))
+header-reads true s t h a room e = (security-reads s t h a e room, e .provider)
+header-reads false s t h a room e = (a, rw a (within-none s 0 ∙ sym (within-none t 0)))
 
 -- t is accepted with the summary m of s, and with its label and provider name
 pub record Reads (first : Bool) (m : Summary) (s t : List ℕ) : Type 0 where
@@ -107,18 +102,23 @@ pub record Reads (first : Bool) (m : Summary) (s t : List ℕ) : Type 0 where
   pub label : labelOf m s ≡ labelOf m t
   pub name : providerNameOf m s ≡ providerNameOf m t
 
-pub reads : (first : Bool) {s t : List ℕ} → BothOctets s t → (m : Summary) → SectionPassed first s m
-    → m .parts .«section_length» .0 ≤ length t → Alike (judged m) s t → Reads first m s t
+pub reads-accepted : {first : Bool} {m : Summary} {s t : List ℕ} → Reads first m s t → summarize first t ≡ Accepted m
+reads-accepted {first} {m} {s} {t} r = section-passed first t m .1 (r .passed)
+
+pub reads-same : {first : Bool} {m : Summary} {s t : List ℕ} → summarize first s ≡ Accepted m → Reads first m s t
+    → SameSummary first s t
+reads-same {m} e r =
+    record { summary = m; left = e; right = reads-accepted r; label = r .label; «provider_name» = r .name }
+
+pub reads : (first : Bool) (s t : List ℕ) (m : Summary) → SectionPassed first s m
+    → m .parts .«section_length» .0 ≤ length t → SameSection first m s t → Reads first m s t
 unfolding labelOf providerNameOf
-reads first {s} {t} o m a room alike =
-    let masks = alike-judged first s m a t .0 alike in
-    let p = propertiesAt m in
-    let fits = properties-fits (m .properties) p (m .parts) (a .properties .fits) in
-    let size = fits .size in
-    let header = header-reads first o (m .security) (a .security) (omega arith) (masks .0) in
-    let e = properties-alike o p (m .properties) (m .parts) fits (a .properties .reaches) room .0 (masks .1) in
+reads first s t m a room e =
+    let size = properties-fits (m .properties) (propertiesAt m) (m .parts) (a .properties .fits) .size in
+    let header = header-reads first s t (m .security) (a .security) (omega arith) (e .security) in
     record {
-      passed = record { security = header .0; properties = properties-reads first s t m (a .properties) e room };
-      label = e .label;
+      passed =
+          record { security = header .0; properties = properties-reads first s t m (a .properties) (e .properties) room };
+      label = e .properties .label;
       name = ap (drop 4) (header .1);
     }

@@ -1,4 +1,4 @@
--- Accepted inputs of which reading tells the same are alike under their mask.
+-- In accepted inputs of which reading tells the same, all that is judged is the same.
 use Prim.Native.Nat.{ℕ, zero, suc, _+_, _-_, _≤_, _<_}
 use mathlib.Core.Path.{_≡_, sym, ap, subst, _∙_}
 use mathlib.Core.Bool.{Bool, true, false}
@@ -10,25 +10,22 @@ use lib.ListN.{length, getD, drop, List·getD-eq-default}
 use lib.Seq.{ext-getD, getD-drop}
 use lib.Dec.{eqb}
 use Rattle.octets.specs.Number.{le}
+use Rattle.octets.specs.Octets.{Octets}
 use Rattle.octets.specs.Padding.{padded}
 use Rattle.octets.specs.Part.{within}
 use Rattle.octets.proofs.Laws.Number.{le-inj}
 use Rattle.octets.proofs.Laws.Part.{length-within, getD-within}
-use Rattle.rules.specs.Judged.{judged}
 use Rattle.rules.specs.Reading.{securityHeader}
 use Rattle.rules.specs.Security.{ST, securityLength, securityParts}
-use Rattle.rules.specs.Summary.{partOf, labelOf, providerNameOf, propertiesAt}
+use Rattle.rules.specs.Summary.{partOf, labelOf, providerNameOf}
 use Rattle.rules.specs.declared.section.Summary.{Summary}
 use Rattle.rules.specs.declared.security.SecurityFields.{SecurityFields}
 use Rattle.rules.specs.declared.security.SecurityHeader.{SecurityHeader}
 use Rattle.rules.specs.declared.security.SecurityParts.{SecurityParts}
-use Rattle.rules.proofs.Laws.Accepted.{SecurityFits, security-fits, security-fields, properties-fits, properties-fields, SecurityPassed, HeaderPassed, SectionPassed}
-use Rattle.rules.proofs.Laws.Judged.{headerMask, alike-judged}
-use Rattle.rules.proofs.Laws.Masked.{Alike}
-use Rattle.secrecy.proofs.Alike.{BothOctets, alike-none}
-use Rattle.secrecy.proofs.Properties.{properties-alike}
-use Rattle.secrecy.proofs.Security.{SameSecurity, security-alike}
-use Rattle.secrecy.specs.Demand3.{Octets}
+use Rattle.rules.proofs.Laws.Accepted.{SecurityFits, security-fits, security-fields, properties-fields, SecurityPassed, HeaderPassed, SectionPassed}
+use Rattle.secrecy.proofs.Alike.{BothOctets}
+use Rattle.secrecy.proofs.Section.{SameHeader, SameSection}
+use Rattle.secrecy.proofs.Security.{SameSecurity}
 
 -- the number at the start and what follows it make up the whole
 number-rest : (w : ℕ) (x y : List ℕ) → Octets x → Octets y → length x ≡ length y
@@ -99,22 +96,17 @@ security-told {s} {t} o h a b name =
 header-told : (first : Bool) {s t : List ℕ} → BothOctets s t → (h : SecurityHeader)
     → HeaderPassed first s h → HeaderPassed first t h
     → drop 4 (partOf s (h .parts .«provider_info»)) ≡ drop 4 (partOf t (h .parts .«provider_info»))
-    → Alike (headerMask first h) s t
-header-told true o h a b name =
-    security-alike o (h .fields) (h .parts) (security-fits (h .fields) 0 (h .parts) (a .fits)) (a .reaches) (b .reaches) .1
-    (security-told o h a b name)
-header-told false {s} {t} o h a b name = alike-none 0 s t
+    → SameHeader first h s t
+header-told true o h a b name = security-told o h a b name
+header-told false o h a b name = tt
 
 -- the summary, the label and the provider name tell all that is judged
 pub told : (first : Bool) {s t : List ℕ} → BothOctets s t → (m : Summary) → SectionPassed first s m → SectionPassed first t m
-    → labelOf m s ≡ labelOf m t → providerNameOf m s ≡ providerNameOf m t → Alike (judged m) s t
+    → labelOf m s ≡ labelOf m t → providerNameOf m s ≡ providerNameOf m t → SameSection first m s t
 unfolding labelOf providerNameOf
 told first {s} {t} o m a b label name =
-    let p = propertiesAt m in
-    let fits = properties-fits (m .properties) p (m .parts) (a .properties .fits) in
     let fields = sym (properties-fields first s m (a .properties)) ∙ properties-fields first t m (b .properties) in
-    alike-judged first s m a t .1 (
-      header-told first o (m .security) (a .security) (b .security) name,
-      properties-alike o p (m .properties) (m .parts) fits (a .properties .reaches) (b .properties .reaches) .1
-          (record { fields = fields; label = label }),
-    )
+    record {
+      security = header-told first o (m .security) (a .security) (b .security) name;
+      properties = record { fields = fields; label = label };
+    }

@@ -6,6 +6,7 @@ pub mod GivenOf
 pub mod Header
 pub mod Hidden
 pub mod Laid
+pub mod Output
 pub mod Parts
 pub mod Placed
 pub mod PropertiesShown

@@ -1,19 +1,23 @@
 -- What the section writer and the reader say of each other.
-use Prim.Native.Nat.{ℕ, _-_, _<_}
+use Prim.Native.Nat.{ℕ, _+_, _-_, _<_, _≤_}
 use mathlib.Core.Path.{_≡_}
-use mathlib.Core.Bool.{Bool, true}
+use mathlib.Core.Bool.{Bool, true, cond}
 use mathlib.Core.List.{List, _++_}
-use lib.ListN.{length, take, replicate}
+use lib.ListN.{length, take, drop, replicate}
 use Rattle.octets.specs.Octets.{Octets}
-use Rattle.rules.specs.Judged.{carried, copyOf, judgedIdentity, masked}
+use Rattle.octets.specs.declared.count.Bytes.{Bytes}
+use Rattle.rules.specs.Judged.{carried, judgedIdentity, masked}
+use Rattle.rules.specs.Properties.{propertiesLength}
 use Rattle.rules.specs.Reading.{read}
 use Rattle.rules.specs.Refusal.{bytes}
+use Rattle.rules.specs.Security.{securityLength}
 use Rattle.rules.specs.Summary.{partOf}
+use Rattle.rules.specs.Support.{supportAnswer, supportBytes}
+use Rattle.rules.specs.declared.section.Output.the-variants.{Written}
 use Rattle.rules.specs.declared.section.Reading.the-variants.{Accepted}
 use Rattle.rules.specs.declared.section.Section.{Section}
 use Rattle.writing.specs.Given.{Given, propertiesGiven, securityGiven}
-use Rattle.writing.specs.Writing.{placeSection, sectionBytes}
-use Rattle.writing.specs.declared.values.Placed.the-variants.{At}
+use Rattle.writing.specs.Writing.{writeAnswer, writeBytes}
 
 -- the values fit their fields, as their types in the code have it
 pub record WellFormed (g : Given) : Type 0 where
@@ -25,9 +29,14 @@ pub record WellFormed (g : Given) : Type 0 where
   pub hash : g .values .«hash_algorithm» < 4294967296
   pub encryption : g .values .«encryption_algorithm» < 4294967296
 
--- "what is written reads back as the values and parts given": whatever follows the section
+-- the length that the layouts of the headers give
+abbrev pub layoutLength : Given → ℕ
+layoutLength g = cond (g .values .«security_first») (securityLength (securityGiven g)) 0 + propertiesLength (propertiesGiven g)
+
+-- what is written reads back as the values and parts given
 pub record ReadsBack (g : Given) (s : List ℕ) (r : Section) : Type 0 where
   pub reads : read (g .values .«security_first») s ≡ Accepted r
+  pub length : r .summary .parts .«section_length» ≡ bytes (layoutLength g)
   pub security : g .values .«security_first» ≡ true → r .summary .security .fields ≡ securityGiven g
   pub properties : r .summary .properties ≡ propertiesGiven g
   pub tag : r .«application_tag» ≡ g .values .«application_tag»
@@ -100,16 +109,27 @@ hidden g =
       body = replicate (length (g .body)) 0;
     }
 
+-- what stands in an output of which the writer answers that n bytes are written
+pub record WrittenOutput (g : Given) (out : List ℕ) (n : Bytes) : Type 0 where
+  pub length : n ≡ bytes (layoutLength g)
+  -- 01: "bytes behind it stay"
+  pub behind : drop (n .0) (writeBytes g out) ≡ drop (n .0) out
+  pub output : (r : Section) × ReadsBack g (writeBytes g out) r
+  -- the bytes written, whatever follows them
+  pub followed : (rest : List ℕ) → (r : Section) × ReadsBack g (take (n .0) (writeBytes g out) ++ rest) r
+
+-- "Given room, writing what was read from an accepted section gives that section again with X bits and padding zero."
+pub record WrittenAgain (s out : List ℕ) (r : Section) : Type 0 where
+  pub answer : writeAnswer (givenOf r s) out ≡ Written (r .summary .parts .«section_length»)
+  pub section : take (r .summary .parts .«section_length» .0) (writeBytes (givenOf r s) out) ≡ masked (carried (r .summary)) s
+  pub behind : drop (r .summary .parts .«section_length» .0) (writeBytes (givenOf r s) out)
+      ≡ drop (r .summary .parts .«section_length» .0) out
+
 pub record Writing : Type 0 where
-  -- the length is the layout's
-  pub length : (g : Given) (n : ℕ) → WellFormed g → placeSection g ≡ At (bytes n) → length (sectionBytes g) ≡ n
-  pub readBack : (g : Given) (n : ℕ) (rest : List ℕ) → WellFormed g → placeSection g ≡ At (bytes n)
-      → (r : Section) × ReadsBack g (sectionBytes g ++ rest) r
-  -- "writing what was read from an accepted section gives that section again with X bits and padding zero"
-  pub writtenAgain : (first : Bool) (s : List ℕ) (r : Section) → Octets s → read first s ≡ Accepted r
-      → (placeSection (givenOf r s) ≡ At (r .summary .parts .«section_length»))
-      × (sectionBytes (givenOf r s) ≡ masked (carried (r .summary)) s)
-  -- the support copy is what the writer makes of the reading with every private bit zero
-  pub supportCopy : (first : Bool) (s : List ℕ) (r : Section) → Octets s → read first s ≡ Accepted r
-      → (placeSection (hidden (givenOf r s)) ≡ At (r .summary .parts .«section_length»))
-      × (sectionBytes (hidden (givenOf r s)) ≡ copyOf (r .summary) s)
+  pub written : (g : Given) (out : List ℕ) (n : Bytes) → WellFormed g → writeAnswer g out ≡ Written n → WrittenOutput g out n
+  pub writtenAgain : (first : Bool) (s out : List ℕ) (r : Section) → Octets s → read first s ≡ Accepted r
+      → r .summary .parts .«section_length» .0 ≤ length out → WrittenAgain s out r
+  -- the support copy is what the writer makes of the reading with every private bit zero, in every output
+  pub supportCopy : (first : Bool) (s out : List ℕ) (r : Section) → Octets s → read first s ≡ Accepted r
+      → (writeAnswer (hidden (givenOf r s)) out ≡ supportAnswer first s out)
+      × (writeBytes (hidden (givenOf r s)) out ≡ supportBytes first s out)

@@ -23,7 +23,8 @@ use Rattle.rules.proofs.Laws.Accepted.{HeaderPassed, SectionPassed, properties-
 use Rattle.writing.specs.Theorems.{ReadsBack}
 use Rattle.writing.specs.Writing.{sectionBytes}
 use Rattle.writing.proofs.Laws.Again.{accepted as read-accepted}
-use Rattle.writing.proofs.Theorems.{writing}
+use Rattle.writing.proofs.Laws.Placed.{section-placed}
+use Rattle.writing.proofs.Laws.ReadBack.{section-back}
 use Rattle.requests.specs.Defaults.{encryption, kind, providerType, signature}
 use Rattle.requests.specs.Request.{SendRequest}
 use Rattle.requests.specs.Section.{propertiesAt as startAt, propertiesFieldsOf, providerInfo, sectionLength, securityFieldsOf, securityFirst}
@@ -109,7 +110,8 @@ pub read-back : (q : SendRequest) (rest : List ℕ) → Typed q → Legal q
 unfolding givenBy read labelOf providerNameOf propertiesFieldsOf securityFieldsOf
 read-back q rest t legal =
     let a = request-passed q legal in
-    let written = writing .readBack (givenBy q) (sectionLength q) rest (wellFormed-by q t a) (accepted q t legal) in
+    let placed = section-placed (givenBy q) (sectionLength q) .0 (accepted q t legal) in
+    let written = section-back (givenBy q) (sectionLength q) rest (wellFormed-by q t a) placed in
     let s = sectionBytes (givenBy q) ++ rest in
     let r = written .0 in
     let b = written .1 in

@@ -1,5 +1,5 @@
 -- An accepted section written again, whole or with less of it shown: one law for both.
-use Prim.Native.Nat.{ℕ, _%_}
+use Prim.Native.Nat.{ℕ, _+_, _%_}
 use mathlib.Core.Path.{_≡_, refl, sym, ap, subst, _∙_}
 use mathlib.Core.Bool.{Bool, true, false, cond}
 use mathlib.Core.List.{List, [], _++_}
@@ -9,7 +9,9 @@ use borrow.Author.Tests.{le-ltb}
 use lib.ListN.{length}
 use Rattle.octets.specs.Number.{le}
 use Rattle.octets.specs.Octets.{Octets}
+use Rattle.octets.specs.declared.count.Bytes.{Bytes}
 use Rattle.octets.proofs.Laws.Number.{le-lt}
+use Rattle.octets.proofs.Laws.Part.{length-within}
 use Rattle.rules.specs.Judged.{masked, propertiesBits, sectionBits, securityBits}
 use Rattle.rules.specs.Security.{ST, identityHead, identitySize, securityContents, securityFields, securityLength, securityParts, securitySteps}
 use Rattle.rules.specs.Reading.{fullReading, read, summarize}
@@ -31,6 +33,7 @@ use Rattle.writing.specs.Theorems.{givenOf}
 use Rattle.writing.specs.Writing.{placeSection, propertiesBytes, sectionBytes, securityBytes, tooLarge}
 use Rattle.writing.specs.declared.values.Placed.the-variants.{At}
 use Rattle.writing.proofs.Laws.GivenOf.{givenAgain, properties-of, propertiesGiven-again, security-of, securityGiven-again}
+use Rattle.writing.proofs.Laws.Laid.{length-section}
 use Rattle.writing.proofs.Laws.Placed.{HeaderPlaced, SectionPlaced, section-placed, startOf}
 use Rattle.writing.proofs.Laws.Row.{headerBytes, length-headerBytes}
 use Rattle.writing.proofs.Laws.PropertiesShown.{PropertiesOf}
@@ -44,12 +47,19 @@ pub record Way (k : Given → Given) (p : ℕ) : Type 0 where
   pub properties : (g : Given) → propertiesGiven (k g) ≡ propertiesGiven g
   pub label : (g : Given) → k g .label ≡ g .label
   pub provider : (g : Given) → k g .providerInfo ≡ g .providerInfo
+  pub correlation : (g : Given) → length (g .correlationId) ≡ 20 → length (k g .correlationId) ≡ 20
   pub identity : (g : Given) → identitySize (ST (securityGiven g)) (securityGiven g .«sender_id_size» .0) ≡ true
       → identityHead (securityGiven g) (k g .senderId) ≡ identityHead (securityGiven g) (g .senderId)
   pub securityShown : (g : Given) (s : List ℕ) → Octets s → SecurityOf g s
       → Shown (securityBits p (securityGiven g)) (securityBytes (k g)) s 0
   pub propertiesShown : (g : Given) (s : List ℕ) (at : ℕ) → Octets s → PropertiesOf g s at
       → Shown (propertiesBits p (propertiesGiven g)) (propertiesBytes (k g)) s at
+
+-- what is given is placed, and its bytes are so many and these
+pub record WrittenAs (g : Given) (n : Bytes) (section : List ℕ) : Type 0 where
+  pub placed : placeSection g ≡ At n
+  pub size : length (sectionBytes g) ≡ n .0
+  pub bytes : sectionBytes g ≡ section
 
 -- an accepted input has a summary, of which the full reading is made
 pub accepted : (s : List ℕ) (x : Summarized) (r : Section) → fullReading s x ≡ Reading·Accepted r
@@ -163,27 +173,27 @@ module _ {k : Given → Given} {bits : ℕ} (w : Way k bits) where
         (zero-add (length (headerBytes first (k g))) ∙ length-headerBytes first (k g) ∙ start-again first s m (a .security))
         properties
 
-    -- its length, and its bytes
-    again : (placeSection (k (givenAgain m s)) ≡ At (m .parts .«section_length»))
-        × (sectionBytes (k (givenAgain m s)) ≡ masked (sectionBits bits m) s)
+    again : WrittenAs (k (givenAgain m s)) (m .parts .«section_length») (masked (sectionBits bits m) s)
     unfolding givenOf sectionOf sectionBytes
     again =
         let g = givenAgain m s in
         let n = m .parts .«section_length» .0 in
-        let section : Bool → List ℕ = λ first. headerBytes first (k g) ++ propertiesBytes (k g) in (
-          section-placed (k g) n .1 (subst (λ (first : Bool). SectionPlaced first (k g) n) (sym (w .first g)) again-placed),
-          ap section (w .first g) ∙ again-shown .kept,
-        )
+        let section : Bool → List ℕ = λ first. headerBytes first (k g) ++ propertiesBytes (k g) in
+        let placed = subst (λ (first : Bool). SectionPlaced first (k g) n) (sym (w .first g)) again-placed in
+        let twenty = length-within s (propertiesAt m + 4) 20 (omega (arith, a .properties .fixed)) in
+        record {
+          placed = section-placed (k g) n .1 placed;
+          size = length-section (k g) n (w .correlation g twenty) placed;
+          bytes = ap section (w .first g) ∙ again-shown .kept;
+        }
 
   -- what was accepted, written again in this way: it has the section's length, and shows what the masks count
   pub accepted-again : (first : Bool) (s : List ℕ) (r : Section) → Octets s → read first s ≡ Reading·Accepted r
-      → (placeSection (k (givenOf r s)) ≡ At (r .summary .parts .«section_length»))
-      × (sectionBytes (k (givenOf r s)) ≡ masked (sectionBits bits (r .summary)) s)
+      → WrittenAs (k (givenOf r s)) (r .summary .parts .«section_length») (masked (sectionBits bits (r .summary)) s)
   unfolding read
   accepted-again first s r b e =
       let m = r .summary in
       let a = accepted s (summarize first s) r e in
       subst
-      (λ (x : Section). (placeSection (k (givenOf x s)) ≡ At (m .parts .«section_length»))
-      × (sectionBytes (k (givenOf x s)) ≡ masked (sectionBits bits m) s))
+      (λ (x : Section). WrittenAs (k (givenOf x s)) (m .parts .«section_length») (masked (sectionBits bits m) s))
       (sym (a .1)) (again s m b (summary-passed first s m (a .0)))

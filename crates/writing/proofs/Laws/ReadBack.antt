@@ -151,7 +151,7 @@ module _ (first : Bool) (g : Given) (n : ℕ) (rest : List ℕ) (w : WellFormed 
 -- the full reading of what is written, whatever follows
 pub section-back : (g : Given) (n : ℕ) (rest : List ℕ) → WellFormed g → SectionPlaced (g .values .«security_first») g n
     → (r : Section) × ReadsBack g (sectionBytes g ++ rest) r
-unfolding sectionBytes read fullReading summaryOf sectionOf
+unfolding sectionBytes read fullReading summaryOf sectionOf propertiesParts
 section-back g n rest w a =
     let first = g .values .«security_first» in
     let s = input first g n rest w a in
@@ -163,6 +163,7 @@ section-back g n rest w a =
     let room : startOf first g + 24 ≤ length s = omega (arith, start, section-read first g n rest w a .properties .fixed) in
     let back : ReadsBack g s (sectionOf m s) = record {
       reads = rw (section-passed first s m .1 (section-read first g n rest w a));
+      length = refl;
       security = λ e. header e .fields;
       properties = refl;
       tag = rw (start, properties-behind first g n rest w a) (tag-written g rest holds w);

@@ -11,13 +11,13 @@ use Rattle.octets.specs.Padding.{padded}
 use Rattle.octets.proofs.Laws.Part.{within-none}
 use Rattle.rules.specs.Properties.{propertiesLength}
 use Rattle.rules.specs.Reading.{SameSummary, securityHeader, summarize}
-use Rattle.rules.specs.Security.{ST, securityFields, securityLength, securityContents, identityHead}
+use Rattle.rules.specs.Security.{ST, securityFields, securityLength, identityHead}
 use Rattle.rules.specs.Summary.{partOf, noSecurity, summaryOf, labelOf, providerNameOf, propertiesAt}
 use Rattle.rules.specs.declared.properties.PropertiesFields.{PropertiesFields}
 use Rattle.rules.specs.declared.section.Summarized.the-variants.{Accepted}
 use Rattle.rules.specs.declared.section.Summary.{Summary}
 use Rattle.rules.specs.declared.security.SecurityHeader.{SecurityHeader}
-use Rattle.rules.proofs.Laws.Accepted.{security-fits, security-fields, properties-fits, SecurityPassed, PropertiesPassed, HeaderPassed, SectionPassed, section-passed}
+use Rattle.rules.proofs.Laws.Accepted.{header-fits, security-fields, section-fits, SecurityPassed, PropertiesPassed, HeaderPassed, SectionPassed, section-passed}
 use Rattle.rules.proofs.Laws.Judged.{identity-le-provider}
 use Rattle.secrecy.proofs.Properties.{SameProperties}
 use Rattle.secrecy.proofs.Section.{SameHeader, SameSection}
@@ -63,14 +63,17 @@ module _ (s t : List ℕ) (h : SecurityHeader) (a : SecurityPassed s h) (e : Sam
 
   -- so each step passes that passed before
   security-reads : h .parts .length .0 ≤ length t → SecurityPassed t h
-  unfolding securityContents securityLength
+  unfolding securityLength
   security-reads room =
-      let size = security-fits (h .fields) 0 (h .parts) (a .fits) .size in
+      let size = header-fits a .size in
       record {
         fixed = omega (arith, identity-le-provider (h .fields));
-        fits = a .fits;
+        steps = a .steps;
+        small = a .small;
         reaches = room;
-        contents = rw (sym head-same, sym (e .provider)) (a .contents);
+        identity = sym head-same ∙ a .identity;
+        provider = rw (sym (e .provider)) (a .provider);
+        parts = a .parts;
         header = a .header ∙ header-same;
       }
 
@@ -79,12 +82,14 @@ properties-reads : (first : Bool) (s t : List ℕ) (m : Summary) → PropertiesP
     → SameProperties (propertiesAt m) (m .parts) s t → m .parts .«section_length» .0 ≤ length t → PropertiesPassed first t m
 unfolding labelOf propertiesLength padded
 properties-reads first s t m a e room =
-    let size = properties-fits (m .properties) (propertiesAt m) (m .parts) (a .fits) .size in
+    let size = section-fits a .size in
     record {
       fixed = omega arith;
-      fits = a .fits;
+      steps = a .steps;
+      small = a .small;
       reaches = room;
-      contents = rw (sym (e .label)) (a .contents);
+      label = rw (sym (e .label)) (a .label);
+      parts = a .parts;
       summary = a .summary ∙ ap (λ (x : PropertiesFields). summaryOf first (m .security) x (m .parts)) (e .fields);
     }
 
@@ -114,7 +119,7 @@ pub reads : (first : Bool) (s t : List ℕ) (m : Summary) → SectionPassed firs
     → m .parts .«section_length» .0 ≤ length t → SameSection first m s t → Reads first m s t
 unfolding labelOf providerNameOf
 reads first s t m a room e =
-    let size = properties-fits (m .properties) (propertiesAt m) (m .parts) (a .properties .fits) .size in
+    let size = section-fits (a .properties) .size in
     let header = header-reads first s t (m .security) (a .security) (omega arith) (e .security) in
     record {
       passed =

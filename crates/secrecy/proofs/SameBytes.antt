@@ -20,7 +20,7 @@ use Rattle.rules.specs.declared.section.Summary.{Summary}
 use Rattle.rules.specs.declared.security.SecurityFields.{SecurityFields}
 use Rattle.rules.specs.declared.security.SecurityHeader.{SecurityHeader}
 use Rattle.rules.specs.declared.security.SecurityParts.{SecurityParts}
-use Rattle.rules.proofs.Laws.Accepted.{HeaderPassed, SectionPassed, properties-fits, security-fits}
+use Rattle.rules.proofs.Laws.Accepted.{HeaderPassed, SectionPassed, section-fits, header-fits}
 use Rattle.secrecy.proofs.Alike.{within-same}
 use Rattle.secrecy.proofs.Properties.{SameProperties}
 use Rattle.secrecy.proofs.Section.{SameHeader, SameSection}
@@ -58,7 +58,7 @@ module _ (s t : List ℕ) (n : ℕ) (hs : n ≤ length s) (ht : n ≤ length t) 
 
   header-same : (first : Bool) (h : SecurityHeader) → HeaderPassed first s h → h .parts .length .0 ≤ n → SameHeader first h s t
   header-same true h a l =
-      let fits = security-fits (h .fields) 0 (h .parts) (a .fits) in
+      let fits = header-fits a in
       subst (λ (x : SecurityParts). SameSecurity (h .fields) x s t) (sym (fits .layout))
       (security-same (h .fields) (omega arith))
   header-same false h a l = tt
@@ -68,7 +68,7 @@ pub section-same : (first : Bool) (s t : List ℕ) (m : Summary) → SectionPass
 section-same first s t m a room same =
     let n = m .parts .«section_length» .0 in
     let hs = a .properties .reaches in
-    let fits = properties-fits (m .properties) (propertiesAt m) (m .parts) (a .properties .fits) in
+    let fits = section-fits (a .properties) in
     let size = fits .size in
     record {
       security = header-same s t n hs room same first (m .security) (a .security) (omega arith);

@@ -9,7 +9,7 @@ use Rattle.rules.specs.Judged.{judged}
 use Rattle.rules.specs.Summary.{propertiesAt}
 use Rattle.rules.specs.declared.section.Summary.{Summary}
 use Rattle.rules.specs.declared.security.SecurityHeader.{SecurityHeader}
-use Rattle.rules.proofs.Laws.Accepted.{HeaderPassed, SectionPassed, properties-fits, security-fits}
+use Rattle.rules.proofs.Laws.Accepted.{HeaderPassed, SectionPassed, section-fits, header-fits}
 use Rattle.rules.proofs.Laws.Judged.{alike-judged, headerMask}
 use Rattle.rules.proofs.Laws.Masked.{Alike}
 use Rattle.secrecy.proofs.Alike.{BothOctets, alike-none}
@@ -28,14 +28,14 @@ pub record SameSection (first : Bool) (m : Summary) (s t : List ℕ) : Type 0 wh
 header-alike : (first : Bool) {s t : List ℕ} → BothOctets s t → (h : SecurityHeader) → HeaderPassed first s h
     → h .parts .length .0 ≤ length t → Alike (headerMask first h) s t ↔ SameHeader first h s t
 header-alike true o h a room =
-    security-alike o (h .fields) (h .parts) (security-fits (h .fields) 0 (h .parts) (a .fits)) (a .reaches) room
+    security-alike o (h .fields) (h .parts) (header-fits a) (a .reaches) room
 header-alike false {s} {t} o h a room = (λ x. tt, λ x. alike-none 0 s t)
 
 pub section-alike : (first : Bool) {s t : List ℕ} → BothOctets s t → (m : Summary) → SectionPassed first s m
     → m .parts .«section_length» .0 ≤ length t → Alike (judged m) s t ↔ SameSection first m s t
 section-alike first {s} {t} o m a room =
     let p = propertiesAt m in
-    let fits = properties-fits (m .properties) p (m .parts) (a .properties .fits) in
+    let fits = section-fits (a .properties) in
     let size = fits .size in
     let masks = alike-judged first s m a t in
     let security = header-alike first o (m .security) (a .security) (omega arith) in

@@ -22,7 +22,7 @@ use Rattle.rules.specs.declared.section.Summary.{Summary}
 use Rattle.rules.specs.declared.security.SecurityFields.{SecurityFields}
 use Rattle.rules.specs.declared.security.SecurityHeader.{SecurityHeader}
 use Rattle.rules.specs.declared.security.SecurityParts.{SecurityParts}
-use Rattle.rules.proofs.Laws.Accepted.{SecurityFits, security-fits, security-fields, properties-fields, SecurityPassed, HeaderPassed, SectionPassed}
+use Rattle.rules.proofs.Laws.Accepted.{SecurityFits, header-fits, security-fields, properties-fields, SecurityPassed, HeaderPassed, SectionPassed}
 use Rattle.secrecy.proofs.Alike.{BothOctets}
 use Rattle.secrecy.proofs.Section.{SameHeader, SameSection}
 use Rattle.secrecy.proofs.Security.{SameSecurity}
@@ -74,7 +74,7 @@ unfolding securityHeader
 security-told {s} {t} o h a b name =
     let at = h .parts .«provider_info» .start .0 in
     let n = h .parts .«provider_info» .length .0 in
-    let inside = provider-in (h .fields) (h .parts) (security-fits (h .fields) 0 (h .parts) (a .fits)) in
+    let inside = provider-in (h .fields) (h .parts) (header-fits a) in
     let hs : at + n ≤ length s = omega (arith, inside, a .reaches) in
     let ht : at + n ≤ length t = omega (arith, inside, b .reaches) in
     record {

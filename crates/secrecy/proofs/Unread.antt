@@ -14,7 +14,7 @@ use Rattle.rules.specs.Summary.{propertiesAt, sectionOf}
 use Rattle.rules.specs.Support.{copyAnswer, copyBytes, supportAnswer, supportBytes}
 use Rattle.rules.specs.declared.section.Summarized.the-variants.{Accepted}
 use Rattle.rules.specs.declared.section.Summary.{Summary}
-use Rattle.rules.proofs.Laws.Accepted.{SectionPassed, properties-fits, section-passed}
+use Rattle.rules.proofs.Laws.Accepted.{SectionPassed, section-fits, section-passed}
 use Rattle.rules.proofs.Laws.Judged.{judged-le, length-judged}
 use Rattle.rules.proofs.Laws.Masked.{alike-within, masked-alike}
 use Rattle.secrecy.proofs.ReadAlike.{Reads, reads, reads-accepted, reads-same}
@@ -55,7 +55,7 @@ module _ (first : Bool) (s rest : List ℕ) (m : Summary) (e : summarize first s
   unfolding sectionOf propertiesLength padded
   reading-same =
       let p = propertiesAt m in
-      let size = properties-fits (m .properties) p (m .parts) (passed .properties .fits) .size in
+      let size = section-fits (passed .properties) .size in
       rw (fixed-same s followed (sectionLength m) (passed .properties .reaches) room same p 56 (omega arith) 4 28 refl)
 
   after : ReadTheSame first s followed

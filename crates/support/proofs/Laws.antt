@@ -1,3 +1,3 @@
+pub mod Copied
 pub mod Laid
 pub mod Mask
-pub mod Put

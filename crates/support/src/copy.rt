@@ -1,36 +1,58 @@
 // The support copy of a section.
 use crate::header::copy_properties;
 use crate::header::copy_security;
+use crate::header::provider_start;
 use octets::count::Bytes;
-use reading::section::summarize;
+use reading::properties::properties_fields;
+use reading::section::judge;
+use reading::section::properties_start;
+use reading::security::security_fields;
+use rules::properties::PropertiesFields;
+use rules::properties::section_end;
 use rules::refusal;
 use rules::refusal::Refusal;
 use rules::section::Output;
-use rules::section::Summarized;
-use rules::section::Summary;
 ghost use mathlib.Core.Path.{_≡_};
-ghost use Prim.Native.Nat.{_≤_};
-ghost use lib.ListN.{length};
-ghost use Rattle.rules.specs.Judged.{judged};
-ghost use Rattle.rules.specs.Reading.{summarize};
+ghost use mathlib.Core.Bool.{cond};
+ghost use mathlib.Core.List.{[]};
+ghost use Rattle.octets.specs.Over.{over};
+ghost use Rattle.rules.specs.Judged.{copyOf, masked, securityMask};
+ghost use Rattle.rules.specs.Reading.{headerAt, summaryAt};
 ghost use Rattle.rules.specs.Support.{supportAnswer, supportBytes};
-ghost use Rattle.support.specs.Put.{put};
+ghost use Rattle.support.specs.Laid.{HeaderLaid, SectionLaid};
 
-// The copy of an accepted section, whose summary is `m`.
-fn copy_section(s: &[u8], m: Summary, out: &mut [u8])
-    requires { ⌜ summarize (m .«security_first») (now s) ≡ Summarized.Accepted m ⌝ }
-    requires { ⌜ m .parts .«section_length» .0 ≤ length (now out) ⌝ }
-    ensures { λ _. ⌜ now (out .exit) ≡ put (judged m) (now (s .entry)) (now (out .entry)) ⌝ }
+// The copy of a SecurityHeader, where one stands first.
+fn copy_header(s: &[u8], security_first: bool, at: Bytes, out: &mut [u8])
+    requires { ⌜ HeaderLaid «security_first» (at .0) (now s) (now out) ⌝ }
+    ensures { λ _. ⌜ now (out .exit) ≡ over (masked (cond «security_first» (securityMask (headerAt «security_first» (now (s .entry)) .fields)) []) (now (s .entry))) (now (out .entry)) ⌝ }
 {
-    let first = m.security_first;
-    let security = m.security;
-    let properties = m.properties;
-    let start = m.security.parts.length.0;
-    let end = m.parts.section_length.0;
-    if first {
-        copy_security(s, security, out);
+    if !security_first {
+        return;
     }
-    copy_properties(&s[start..], properties, end - start, &mut out[start..]);
+    let security = security_fields(s);
+    copy_security(s, security, provider_start(security, at), at, out);
+}
+
+// The copy of a section that passed every step, its MessagePropertiesHeader at `at`.
+fn copy_section(
+    s: &[u8],
+    security_first: bool,
+    properties: PropertiesFields,
+    at: Bytes,
+    end: Bytes,
+    out: &mut [u8],
+)
+    requires { ⌜ SectionLaid «security_first» properties (at .0) (end .0) (now s) (now out) ⌝ }
+    ensures { λ _. ⌜ now (out .exit) ≡ over (copyOf (summaryAt «security_first» (now (s .entry))) (now (s .entry))) (now (out .entry)) ⌝ }
+{
+    let start = at.0;
+    copy_header(s, security_first, at, out);
+    copy_properties(
+        &s[start..],
+        properties,
+        Bytes(end.0 - start),
+        &mut out[start..],
+    );
 }
 
 // Reads the section, and writes its copy where the output has room for it: else, and where reading refuses, the output
@@ -39,18 +61,19 @@ pub fn support_copy(s: &[u8], security_first: bool, out: &mut [u8]) -> Output
     ensures { λ r. ⌜ r ≡ supportAnswer «security_first» (now (s .entry)) (now (out .entry)) ⌝ }
     ensures { λ _. ⌜ now (out .exit) ≡ supportBytes «security_first» (now (s .entry)) (now (out .entry)) ⌝ }
 {
-    match summarize(s, security_first) {
-        Summarized::Refused(r) => Output::Refused(r),
-        Summarized::Accepted(m) => {
-            let length = m.parts.section_length;
-            if out.len() < length.0 {
-                return Output::Refused(Refusal {
-                    number: refusal::OUTPUT_SHORT,
-                    place: Bytes(0),
-                });
-            }
-            copy_section(s, m, out);
-            Output::Written(length)
-        }
+    let refused = judge(s, security_first);
+    if refused.number != refusal::PASSED {
+        return Output::Refused(refused);
     }
+    let at = properties_start(s, security_first);
+    let properties = properties_fields(s, at);
+    let end = section_end(properties, at);
+    if out.len() < end.0 {
+        return Output::Refused(Refusal {
+            number: refusal::OUTPUT_SHORT,
+            place: Bytes(0),
+        });
+    }
+    copy_section(s, security_first, properties, at, end, out);
+    Output::Written(end)
 }

@@ -2,62 +2,77 @@
 use crate::run::hide;
 use crate::run::keep;
 use crate::run::low_four;
+use octets::count::Bytes;
+use octets::padding::padding;
 use rules::properties::PropertiesFields;
+use rules::security::AU;
 use rules::security::SecurityFields;
-use rules::security::SecurityHeader;
 ghost use mathlib.Core.Path.{_≡_};
-ghost use Rattle.rules.specs.Judged.{judgedIdentity, propertiesMask, securityMask};
+ghost use Rattle.octets.specs.Over.{over};
+ghost use Rattle.rules.specs.Judged.{judgedIdentity, masked, propertiesMask, securityMask};
+ghost use Rattle.rules.specs.Security.{providerAt, securityLength};
 ghost use Rattle.support.specs.Laid.{PropertiesLaid, SecurityLaid};
-ghost use Rattle.support.specs.Put.{put};
 
 // Of an identity of ST 1 the first two bytes are judged.
-fn judged_identity(f: SecurityFields) -> usize
-    ensures { λ r. ⌜ r ≡ judgedIdentity f ⌝ }
+fn judged_identity(f: SecurityFields) -> Bytes
+    ensures { λ r. ⌜ r .0 ≡ judgedIdentity f ⌝ }
 {
     let flags = f.flags;
-    let size = f.sender_id_size.0;
-    if flags % 16 != 1 {
-        return 0;
+    if flags % AU != 1 {
+        return Bytes(0);
     }
-    if size < 2 {
-        return size;
+    if f.sender_id_size.0 < 2 {
+        return f.sender_id_size;
     }
-    2
+    Bytes(2)
 }
 
-// The runs of `securityMask`, the five sizes and the judged identity bytes in one.
-pub(crate) fn copy_security(s: &[u8], h: SecurityHeader, out: &mut [u8])
-    requires { ⌜ SecurityLaid h (now s) (now out) ⌝ }
-    ensures { λ _. ⌜ now (out .exit) ≡ put (securityMask (h .fields)) (now (s .entry)) (now (out .entry)) ⌝ }
+// Where the provider info of a header of `size` bytes begins.
+pub(crate) fn provider_start(f: SecurityFields, size: Bytes) -> Bytes
+    requires { ⌜ size .0 ≡ securityLength f ⌝ }
+    ensures { λ r. ⌜ r .0 ≡ providerAt f ⌝ }
 {
-    let fields = h.fields;
-    let provider = h.parts.provider_info.start.0;
-    let info = h.parts.provider_info.length.0;
-    let end = h.parts.length.0;
-    let identity = judged_identity(fields);
-    let hidden = 16 + identity;
-    let padding = provider + info;
-    keep(s, out, 0, 1);
-    low_four(s, out, 1);
-    keep(s, out, 2, 14 + identity);
-    hide(out, hidden, provider - hidden);
+    let info = f.provider_info_size;
+    Bytes(size.0 - info.0 - padding(info).0)
+}
+
+// The runs of `securityMask`, the five sizes and the judged identity bytes in one. The header is `size` bytes long, its
+// provider info begins at `provider`.
+pub(crate) fn copy_security(
+    s: &[u8],
+    f: SecurityFields,
+    provider: Bytes,
+    size: Bytes,
+    out: &mut [u8],
+)
+    requires { ⌜ SecurityLaid f (provider .0) (size .0) (now s) (now out) ⌝ }
+    ensures { λ _. ⌜ now (out .exit) ≡ over (masked (securityMask f) (now (s .entry))) (now (out .entry)) ⌝ }
+{
+    let identity = judged_identity(f);
+    let info = f.provider_info_size;
+    let hidden = 16 + identity.0;
+    let padding = provider.0 + info.0;
+    keep(s, out, Bytes(0), Bytes(1));
+    low_four(s, out, Bytes(1));
+    keep(s, out, Bytes(2), Bytes(14 + identity.0));
+    hide(out, Bytes(hidden), Bytes(provider.0 - hidden));
     keep(s, out, provider, info);
-    hide(out, padding, end - padding);
+    hide(out, Bytes(padding), Bytes(size.0 - padding));
 }
 
 // The runs of `propertiesMask`, the last fixed fields and the label in one. Both slices begin at the
 // MessagePropertiesHeader, which is `size` bytes long with all that follows it.
-pub(crate) fn copy_properties(s: &[u8], f: PropertiesFields, size: usize, out: &mut [u8])
-    requires { ⌜ PropertiesLaid f size (now s) (now out) ⌝ }
-    ensures { λ _. ⌜ now (out .exit) ≡ put (propertiesMask f) (now (s .entry)) (now (out .entry)) ⌝ }
+pub(crate) fn copy_properties(s: &[u8], f: PropertiesFields, size: Bytes, out: &mut [u8])
+    requires { ⌜ PropertiesLaid f (size .0) (now s) (now out) ⌝ }
+    ensures { λ _. ⌜ now (out .exit) ≡ over (masked (propertiesMask f) (now (s .entry))) (now (out .entry)) ⌝ }
 {
     let label = f.label_length.bytes().0;
     let hidden = 56 + label;
-    low_four(s, out, 0);
-    keep(s, out, 1, 3);
-    hide(out, 4, 20);
-    keep(s, out, 24, 4);
-    hide(out, 28, 4);
-    keep(s, out, 32, 24 + label);
-    hide(out, hidden, size - hidden);
+    low_four(s, out, Bytes(0));
+    keep(s, out, Bytes(1), Bytes(3));
+    hide(out, Bytes(4), Bytes(20));
+    keep(s, out, Bytes(24), Bytes(4));
+    hide(out, Bytes(28), Bytes(4));
+    keep(s, out, Bytes(32), Bytes(24 + label));
+    hide(out, Bytes(hidden), Bytes(size.0 - hidden));
 }

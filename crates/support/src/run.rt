@@ -1,32 +1,37 @@
 // Runs of a copy: bytes kept, a byte of which the low four bits are kept, bytes of which none are.
+use octets::count::Bytes;
 use octets::over::copy;
 use octets::over::zero;
 ghost use mathlib.Core.Path.{_≡_};
-ghost use mathlib.Core.List.{List};
-ghost use Prim.Native.Nat.{ℕ, _+_, _≤_, _<_};
-ghost use lib.ListN.{length, replicate};
-ghost use Rattle.support.specs.Put.{putAt};
+ghost use Prim.Native.Nat.{_+_, _≤_, _<_};
+ghost use lib.ListN.{drop, length, replicate};
+ghost use Rattle.octets.specs.Over.{overAt};
+ghost use Rattle.rules.specs.Judged.{masked};
 
-pub(crate) fn keep(s: &[u8], out: &mut [u8], at: usize, n: usize)
-    requires { ⌜ at + n ≤ length (now s) ⌝ }
-    requires { ⌜ at + n ≤ length (now out) ⌝ }
-    ensures { λ _. ⌜ now (out .exit) ≡ putAt at (replicate n 8) (now (s .entry)) (now (out .entry)) ⌝ }
+pub(crate) fn keep(s: &[u8], out: &mut [u8], at: Bytes, n: Bytes)
+    requires { ⌜ at .0 + n .0 ≤ length (now s) ⌝ }
+    requires { ⌜ at .0 + n .0 ≤ length (now out) ⌝ }
+    ensures { λ _. ⌜ now (out .exit) ≡ overAt (at .0) (masked (replicate (n .0) 8) (drop (at .0) (now (s .entry)))) (now (out .entry)) ⌝ }
 {
-    copy(&s[at..at + n], &mut out[at..at + n]);
+    let start = at.0;
+    let end = start + n.0;
+    copy(&s[start..end], &mut out[start..end]);
 }
 
-pub(crate) fn low_four(s: &[u8], out: &mut [u8], at: usize)
-    requires { ⌜ at < length (now s) ⌝ }
-    requires { ⌜ at < length (now out) ⌝ }
-    ensures { λ _. ⌜ now (out .exit) ≡ putAt at (replicate 1 4) (now (s .entry)) (now (out .entry)) ⌝ }
+pub(crate) fn low_four(s: &[u8], out: &mut [u8], at: Bytes)
+    requires { ⌜ at .0 < length (now s) ⌝ }
+    requires { ⌜ at .0 < length (now out) ⌝ }
+    ensures { λ _. ⌜ now (out .exit) ≡ overAt (at .0) (masked (replicate 1 4) (drop (at .0) (now (s .entry)))) (now (out .entry)) ⌝ }
 {
-    out[at] = s[at] % 16;
+    let i = at.0;
+    out[i] = s[i] % 16;
 }
 
-// Zeros are what is left of any bytes of which no bit is kept.
-pub(crate) fn hide(out: &mut [u8], at: usize, zeros: usize)
-    requires { ⌜ at + zeros ≤ length (now out) ⌝ }
-    ensures { λ _. ⌜ ((s : List ℕ) → at + zeros ≤ length s → now (out .exit) ≡ putAt at (replicate zeros 0) s (now (out .entry))) ⌝ }
+pub(crate) fn hide(out: &mut [u8], at: Bytes, n: Bytes)
+    requires { ⌜ at .0 + n .0 ≤ length (now out) ⌝ }
+    ensures { λ _. ⌜ now (out .exit) ≡ overAt (at .0) (replicate (n .0) 0) (now (out .entry)) ⌝ }
 {
-    zero(&mut out[at..at + zeros]);
+    let start = at.0;
+    let end = start + n.0;
+    zero(&mut out[start..end]);
 }

@@ -110,7 +110,7 @@ module _ (at n : ℕ) (out : List ℕ) (h : at + n ≤ length out) where
   zeros-lent later e = lent (replicate n 0) later (length-replicate n 0) (e ∙ ap (λ (k : ℕ). replicate k 0) length-lent)
 
 -- what is written over a lent part that reaches to the end is written from the part's offset on
-over-rest : (at : ℕ) (p out later : List ℕ) → at ≤ length out
+pub over-rest : (at : ℕ) (p out later : List ℕ) → at ≤ length out
     → later ≡ over p (take (length out - at) (drop at out))
     → take at out ++ (later ++ drop (length out - at) (drop at out)) ≡ overAt at p out
 unfolding overAt

@@ -1,36 +1,51 @@
--- Headers that lie where the layout puts them.
-use Prim.Native.Nat.{ℕ, _≤_}
-use mathlib.Core.Path.{_≡_, ap}
+-- An accepted section's headers lie where the layout puts them.
+use Prim.Native.Nat.{ℕ, _+_, _≤_}
+use mathlib.Core.Path.{_≡_}
+use mathlib.Core.Bool.{Bool, true}
 use mathlib.Core.List.{List}
 use native.Mathlib.Omega.{arith}
 use lib.ListN.{length}
 use Rattle.octets.specs.Padding.{padded}
 use Rattle.rules.specs.Properties.{propertiesLength}
-use Rattle.rules.specs.Security.{securityLength, securityParts}
+use Rattle.rules.specs.Reading.{fieldsAt, headerAt, judge, securityHeader, startAt, summaryAt}
+use Rattle.rules.specs.Refusal.{limit}
+use Rattle.rules.specs.Security.{providerAt, securityFields, securityLength, securityParts}
+use Rattle.rules.specs.Summary.{summaryOf}
 use Rattle.rules.specs.declared.properties.PropertiesFields.{PropertiesFields}
-use Rattle.rules.specs.declared.security.SecurityHeader.{SecurityHeader}
-use Rattle.rules.specs.declared.security.SecurityParts.{SecurityParts}
+use Rattle.rules.proofs.Laws.Accepted.{judge-passed, section-fits}
 use Rattle.rules.proofs.Laws.Judged.{identity-le-provider}
-use Rattle.support.specs.Laid.{SecurityLaid, PropertiesLaid}
+use Rattle.support.specs.Laid.{PropertiesLaid, SecurityLaid}
 
-pub security-laid : (h : SecurityHeader) (s out : List ℕ) → h .parts ≡ securityParts (h .fields)
-    → h .parts .length .0 ≤ length s → h .parts .length .0 ≤ length out → SecurityLaid h s out
-unfolding securityParts securityLength padded
-security-laid h s out e hs ho =
-    let start = ap (λ (x : SecurityParts). x .«provider_info» .start .0) e in
-    let info = ap (λ (x : SecurityParts). x .«provider_info» .length .0) e in
-    let end = ap (λ (x : SecurityParts). x .length .0) e in
+pub security-laid : (s out : List ℕ) (at provider : ℕ) → judge true s .number ≡ 0 → at ≡ startAt true s → at ≤ length out
+    → provider ≡ providerAt (securityFields s) → SecurityLaid (securityFields s) provider at s out
+unfolding startAt headerAt securityHeader securityParts summaryAt summaryOf securityLength padded
+security-laid s out at provider e start room p =
+    let a = judge-passed true s .0 e .security in
+    let reaches = a .reaches in
     record {
-      identity = omega (arith, identity-le-provider (h .fields));
-      start = start;
-      info = info;
-      provider = omega arith;
-      end = end;
-      input = hs;
-      output = ho;
+      start = p;
+      end = start;
+      identity = omega (arith, identity-le-provider (securityFields s));
+      info = omega arith;
+      input = omega arith;
+      output = room;
     }
 
 pub properties-laid : (f : PropertiesFields) (size : ℕ) (s out : List ℕ) → size ≡ propertiesLength f
     → size ≤ length s → size ≤ length out → PropertiesLaid f size s out
 unfolding propertiesLength padded
 properties-laid f size s out e hs ho = record { label = omega arith; end = e; input = hs; output = ho }
+
+-- the section ends behind its MessagePropertiesHeader, within the limit and the input
+pub record Ends (first : Bool) (s : List ℕ) (size : ℕ) : Type 0 where
+  pub end : size ≡ startAt first s + propertiesLength (fieldsAt first s)
+  pub small : size ≤ limit
+  pub input : size ≤ length s
+
+pub section-ends : (first : Bool) (s : List ℕ) → judge first s .number ≡ 0
+    → Ends first s (summaryAt first s .parts .«section_length» .0)
+unfolding summaryAt summaryOf startAt
+section-ends first s e =
+    let a = judge-passed first s .0 e .properties in
+    let fits = section-fits a in
+    record { end = fits .size; small = omega (arith, fits .size, fits .small); input = a .reaches }

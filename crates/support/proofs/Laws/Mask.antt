@@ -57,19 +57,19 @@ security-parts f =
     (simp (part-judged, part-private, part-both j n, append-assoc, runs-append, zeros))
 
 -- the identity's judged bytes follow the fixed ones, and the padding is what is left of the header
-pub security-runs : (f : SecurityFields) (identity provider info end : ℕ)
-    → identity ≡ judgedIdentity f → provider ≡ providerAt f → info ≡ f .«provider_info_size» .0 → end ≡ securityLength f
+pub security-runs : (f : SecurityFields) (identity provider size : ℕ)
+    → identity ≡ judgedIdentity f → provider ≡ providerAt f → size ≡ securityLength f
     → replicate 1 8
     ++ replicate 1 4
     ++ replicate (14 + identity) 8
     ++ replicate (provider - (16 + identity)) 0
-    ++ replicate info 8
-    ++ replicate (end - (provider + info)) 0
+    ++ replicate (f .«provider_info_size» .0) 8
+    ++ replicate (size - (provider + f .«provider_info_size» .0)) 0
     ≡ securityMask f
 unfolding securityLength padded
-security-runs f identity provider info end i p n e =
-    let rest : end - (provider + info) ≡ padding 4 (f .«provider_info_size» .0) = omega arith in
-    rw (security-parts, security-fixed, rest, i, p, n, ← replicate-append-replicate {A = ℕ} 14 (judgedIdentity f) 8)
+security-runs f identity provider size i p z =
+    let rest : size - (provider + f .«provider_info_size» .0) ≡ padding 4 (f .«provider_info_size» .0) = omega arith in
+    rw (security-parts, security-fixed, rest, i, p, ← replicate-append-replicate {A = ℕ} 14 (judgedIdentity f) 8)
     (ap (λ (r : List ℕ). replicate 1 8 ++ (replicate 1 4 ++ (replicate 14 8 ++ r)))
     (regroup (replicate (judgedIdentity f) 8) (replicate (providerAt f - (16 + judgedIdentity f)) 0) (replicate (f .«provider_info_size» .0) 8) (replicate (padding 4 (f .«provider_info_size» .0)) 0)))
 

@@ -1,124 +1,116 @@
--- `support::copy::copy_section` meets its contract: the SecurityHeader's mask is put, where one stands first, and then that of the rest.
--- Assumes nothing.
-use Prim.Native.Nat.{_+_, _≤_}
+-- The SecurityHeader is copied, where one stands first, and then the rest.
+use Prim.Native.Nat.{ℕ, _+_, _-_, _≤_}
 use denote.Ref.{now}
-use mathlib.Core.Path.{_≡_, ap, subst, _∙_}
-use mathlib.Core.Logic.{⊎-elim}
+use mathlib.Core.Path.{_≡_, ap, refl, sym, _∙_}
 use mathlib.Core.Bool.{Bool}
+use mathlib.Core.List.{List, _++_}
 use native.Mathlib.Omega.{arith}
-use borrow.Author.Needs.{needs}
-use lib.ListN.{length, length-drop}
+use lib.ListN.{drop, length, length-drop, take}
+use Rattle.octets.specs.Over.{over, overAt}
+use Rattle.octets.proofs.Laws.Over.{over-rest}
 use Rattle.octets.proofs.Laws.Part.{rest-drop}
-use Rattle.rules.specs.Judged.{masked, propertiesMask}
+use Rattle.octets.proofs.Laws.Steps.{the}
+use Rattle.rules.specs.Judged.{copyOf, judged, masked, propertiesMask}
 use Rattle.rules.specs.Properties.{propertiesLength}
-use Rattle.rules.specs.Summary.{propertiesAt}
-use Rattle.rules.proofs.Laws.Accepted.{HeaderPassed, SectionPassed, section-passed, security-fits, properties-fits}
-use Rattle.rules.proofs.Laws.Judged.{headerMask, length-headerMask, judged-eq}
-use Rattle.support.specs.Put.{put}
-use Rattle.support.proofs.Laws.Laid.{security-laid, properties-laid}
-use Rattle.support.proofs.Laws.Put.{put-second, put-rest}
+use Rattle.rules.specs.Reading.{fieldsAt, headerAt, startAt, summaryAt}
+use Rattle.rules.specs.Summary.{summaryOf}
+use Rattle.rules.specs.declared.properties.PropertiesFields.{PropertiesFields}
+use Rattle.rules.proofs.Laws.Accepted.{judge-passed}
+use Rattle.rules.proofs.Laws.Judged.{headerMask, judged-eq, length-headerMask, length-propertiesBits}
+use Rattle.support.specs.Laid.{HeaderLaid, SectionLaid}
+use Rattle.support.proofs.Laws.Copied.{Copied, copied-next}
+use Rattle.support.proofs.Laws.Laid.{Ends, properties-laid, section-ends}
+use borrow.Author.Needs.{needs}
 use Rattle.support.proofs.copy.copy_section.Statement.{statement}
 use Rattle.support.proofs.copy.copy_section.Tie as tie
 
--- all that reading has found
-passed : (c : tie.Start) → SectionPassed (c .args .m .«security_first») (now (c .args .s)) (c .args .m)
-passed c = section-passed (c .args .m .«security_first») (now (c .args .s)) (c .args .m) .0 (c .pre .0)
-
 -- the MessagePropertiesHeader with all that follows it ends where the section does, within both slices
-record Ends (c : tie.Start) : Type 0 where
-  size : c .args .m .parts .«section_length» .0 ≡ propertiesAt (c .args .m) + propertiesLength (c .args .m .properties)
-  input : c .args .m .parts .«section_length» .0 ≤ length (now (c .args .s))
-  output : c .args .m .parts .«section_length» .0 ≤ length (now (c .args .out))
+record Lies (c : tie.Start) : Type 0 where
+  size : c .args .end .0 ≡ c .args .at .0 + propertiesLength (c .args .properties)
+  input : c .args .end .0 ≤ length (now (c .args .s))
+  output : c .args .end .0 ≤ length (now (c .args .out))
 
-ends : (c : tie.Start) → Ends c
+ends : (c : tie.Start) → Lies c
 ends c =
-    let m = c .args .m in
-    let p = passed c .properties in
-    record {
-      size = properties-fits (m .properties) (propertiesAt m) (m .parts) (p .fits) .size;
-      input = p .reaches;
-      output = c .pre .1;
-    }
+    let l = c .pre in
+    let e = section-ends (c .args .security-first) (now (c .args .s)) (l .passed) in
+    let f = ap propertiesLength (l .fields) in
+    record { size = omega (arith, l .end, l .start, e .end); input = omega (arith, l .end, e .input); output = l .output }
 
--- past the `if` the SecurityHeader's mask is put, where one stands first
-joined : (c : tie.Joined1)
-    → let start = c .before .before .before .before .before in
-    (length (c .if1 .out) ≡ length (now (start .args .out)))
-    × (c .if1 .out ≡ put (headerMask (start .args .m .«security_first») (start .args .m .security)) (now (start .args .s)) (now (start .args .out)))
-unfolding put masked
-joined c =
-    ⊎-elim
-    (λ w. (ap length (w .5) ∙ w .2 .kept .1 .1 .0, rw (w .0 .taken) (w .5 ∙ w .2 .ensures)))
-    (λ w. (ap length (w .1), rw (w .0 .left) (w .1)))
-    (c .if1 .came)
-
-copy-security-requires : tie.Need-copy-security-requires
-copy-security-requires c κs =
-    let start = c .before .before .before .before .before .before in
-    let m = start .args .m in
-    let a = subst (λ (b : Bool). HeaderPassed b (now (start .args .s)) (m .security)) (c .before .if1 .taken) (passed start .security) in
-    let f = security-fits (m .security .fields) 0 (m .security .parts) (a .fits) in
-    let l = ends start in
-    security-laid (m .security) (now (start .args .s)) (now (start .args .out)) (f .layout) (a .reaches) (omega arith)
+copy-header-requires : tie.Need-copy-header-requires
+copy-header-requires c κs =
+    let start : tie.Start = search in
+    let l = start .pre in
+    let e = ends start in
+    record { passed = l .passed; start = l .start; output = omega arith }
 
 sub-copy-properties : tie.Need-sub-copy-properties
-sub-copy-properties c = omega (arith, ends (c .before .before .before .before .before))
+sub-copy-properties c = omega (arith, ends (search))
 
 part-copy-properties-start : tie.Need-part-copy-properties-start
-part-copy-properties-start c = omega (arith, ends (c .before .before .before .before .before))
+part-copy-properties-start c = omega (arith, ends (search))
 
-part-copy-properties-end : tie.Need-part-copy-properties-end
-part-copy-properties-end c = search needs
+sub-t15 : tie.Need-sub-t15
+sub-t15 c = omega (arith, ends (search))
 
 sub-copy-properties-2 : tie.Need-sub-copy-properties-2
-sub-copy-properties-2 c = omega (arith, ends (c .before .before .before .before .before .before))
-
-sub-copy-properties-3 : tie.Need-sub-copy-properties-3
-sub-copy-properties-3 c = omega (arith, ends (c .before .before .before .before .before .before), joined (c .before))
+sub-copy-properties-2 c = omega (arith, ends (search))
 
 part-copy-properties-start-2 : tie.Need-part-copy-properties-start-2
-part-copy-properties-start-2 c = omega (arith, ends (c .before .before .before .before .before .before), joined (c .before))
-
-part-copy-properties-end-2 : tie.Need-part-copy-properties-end-2
-part-copy-properties-end-2 c = search needs
+part-copy-properties-start-2 c = omega (arith, ends (search))
 
 copy-properties-requires : tie.Need-copy-properties-requires
 copy-properties-requires c κs =
-    let l = ends (c .before .before .before .before .before .before .before) in
-    let j = joined (c .before .before) in
+    let start : tie.Start = search in
+    let e = ends start in
     properties-laid _ _ _ _ (omega arith) (simp (rest-drop, length-drop) (omega arith)) (simp (rest-drop, length-drop) (omega arith))
 
-same-length : tie.Need-same-length
-same-length c = c .before .out2 .given .1 ∙ joined (c .before .before .before .before .before) .0
+entry : tie.After-copy-header → tie.Start
+entry c = search
+
+-- the header's bytes, then the rest
+both : (first : Bool) (s out header now : List ℕ) (f : PropertiesFields) (at size : ℕ) → SectionLaid first f at size s out
+    → header ≡ over (masked (headerMask first (headerAt first s)) s) out
+    → now ≡ overAt at (masked (propertiesMask f) (drop at s)) header → now ≡ over (copyOf (summaryAt first s) s) out
+unfolding copyOf startAt summaryAt summaryOf
+both first s out header now f at size l h e =
+    let a = judge-passed first s .0 (l .passed) in
+    let ends = section-ends first s (l .passed) in
+    let length-f = length-propertiesBits 0 f ∙ ap propertiesLength (l .fields) in
+    let one : Copied (headerMask first (headerAt first s)) s out at header =
+    record { ends = length-headerMask first s (headerAt first s) (a .security) ∙ sym (l .start); bytes = h } in
+    let two = copied-next at (propertiesMask f) one refl (omega (arith, l .start, ends .end, ends .input)) e in
+    two .bytes
+    ∙ ap (λ (f : PropertiesFields). over (masked (headerMask first (headerAt first s) ++ propertiesMask f) s) out) (l .fields)
+    ∙ ap (λ (ks : List ℕ). over (masked ks s) out) (sym (judged-eq first s (summaryAt first s) a))
 
 returns : tie.Need-returns
+unfolding entry
 returns c =
-    let met = c .before .before .before .before .before in
-    let start = met .before .before .before .before .before in
-    let m = start .args .m in
-    let first = m .«security_first» in
+    let header : tie.After-copy-header = search in
+    let start = entry header in
     let s = now (start .args .s) in
-    let a = passed start in
-    let l = ends start in
-    let j = joined met in
-    rw (judged-eq first s m a)
-    (put-second (propertiesAt m) (headerMask first (m .security)) (propertiesMask (m .properties)) s (now (start .args .out))
-    (length-headerMask first s (m .security) (a .security)) (omega arith) (j .1)
-    (put-rest (propertiesAt m) (propertiesMask (m .properties)) s (met .if1 .out) (c .before .before .copy-properties .last .1 .1 .1 .0)
-    (omega arith) (c .before .before .copy-properties .ensures)))
+    let f = start .args .properties in
+    let at = start .args .at .0 in
+    let out = header .copy-header .last .1 .1 .1 .0 in
+    let later = c .before .before .copy-properties .last .1 .1 .1 .0 in
+    let lent = take (length out - at) (drop at out) in
+    let part = ap (λ (p : List ℕ). over (masked (propertiesMask f) p) lent) (rest-drop s at) in
+    let rest = over-rest at (masked (propertiesMask f) (drop at s)) out later (omega (arith, ends start)) (c .before .before .copy-properties .ensures ∙ part) in
+    both (start .args .security-first) s (now (start .args .out)) out _ f at (start .args .end .0) (start .pre) (header .copy-header .ensures) rest
 
 pub copy-section-spec : {M : Type 1} → statement M
 copy-section-spec =
     tie.close
     (tie.spec
-    copy-security-requires
+    copy-header-requires
     sub-copy-properties
     part-copy-properties-start
-    part-copy-properties-end
+    (λ c. search needs)
+    sub-t15
     sub-copy-properties-2
-    sub-copy-properties-3
     part-copy-properties-start-2
-    part-copy-properties-end-2
+    (λ c. search needs)
     copy-properties-requires
-    same-length
+    (λ c. search needs)
     returns)

@@ -1,93 +1,118 @@
--- `support::copy::support_copy` meets its contract: the code makes the definition's tests in its order.
--- Assumes nothing.
-use Prim.Native.Nat.{ℕ}
+-- The refusal and the output's length pick the case.
+use Prim.Native.Nat.{ℕ, _+_, _≤_, _<_, min}
 use denote.Ref.{now}
-use mathlib.Core.Path.{_≡_, sym, ap, subst, _∙_}
+use mathlib.Core.Path.{_≡_, ap, subst, sym, _∙_}
 use mathlib.Core.Bool.{Bool}
-use mathlib.Core.List.{_++_}
+use mathlib.Core.List.{List, _++_}
 use native.Mathlib.Omega.{arith}
-use borrow.Author.Needs.{needs}
-use borrow.Author.Tests.{lt-ltb, le-ltb}
-use lib.ListN.{length, drop}
-use Rattle.rules.specs.Judged.{copyOf}
-use Rattle.rules.specs.Reading.{summarize}
-use Rattle.rules.specs.Summary.{summaryOf}
+use borrow.Author.Tests.{le-ltb, lt-ltb}
+use lib.ListN.{drop, length}
+use Rattle.octets.specs.Over.{over}
+use Rattle.octets.proofs.Laws.Steps.{the}
+use Rattle.rules.specs.Judged.{copyOf, judged}
+use Rattle.rules.specs.Properties.{propertiesLength}
+use Rattle.rules.specs.Reading.{fieldsAt, judge, startAt, summaryAt}
+use Rattle.rules.specs.Refusal.{bytes, limit}
 use Rattle.rules.specs.Support.{copyAnswer, copyBytes, supportAnswer, supportBytes}
-use Rattle.rules.specs.declared.section.Summarized.the-variants.{Accepted}
-use Rattle.rules.specs.declared.section.Summary.{Summary}
-use Rattle.rules.proofs.Laws.Accepted.{section-passed}
-use Rattle.rules.proofs.Laws.Judged.{length-judged}
-use Rattle.support.specs.Put.{put}
+use Rattle.rules.specs.declared.properties.PropertiesFields.{PropertiesFields}
+use Rattle.rules.specs.declared.refusal.Refusal.{Refusal}
+use Rattle.rules.specs.declared.section.Output.the-variants.{Written}
+use Rattle.rules.proofs.Laws.Accepted.{judge-passed, summarize-passed, summarize-refused}
+use Rattle.rules.proofs.Laws.Judged.{judged-le, length-judged}
+use Rattle.rules.proofs.Laws.Masked.{length-masked-le}
+use Rattle.reading.proofs.Laws.Fields.{Passed, accepted}
+use Rattle.reading.specs.Fields.{propertiesRead}
+use Rattle.support.specs.Laid.{SectionLaid}
+use Rattle.support.proofs.Laws.Laid.{section-ends}
+use borrow.Author.Needs.{needs}
 use Rattle.support.proofs.copy.support_copy.Statement.{statement}
 use Rattle.support.proofs.copy.support_copy.Tie as tie
-
--- what reading has found where it accepts
-accepted : (c : tie.After-m)
-    → let a = c .before .before .before .before .before .args in
-    summarize (a .security-first) (now (a .s)) ≡ Accepted (c .m .given .0 .0)
-accepted c = sym (c .before .before .summarize .ensures) ∙ c .m .given .1
-
-summarize-requires : tie.Need-summarize-requires
-summarize-requires c κs = search needs
-
-enum-known-r : tie.Need-enum-known-r
-enum-known-r c = search needs
-
-enum-known-m : tie.Need-enum-known-m
-enum-known-m c = search needs
 
 returns : tie.Need-returns
 unfolding supportAnswer supportBytes copyAnswer copyBytes
 returns c =
-    let read = c .before .before .before .before in
-    let a = read .before .before .before .before .before .args in
-    let m = read .m .given .0 .0 in
-    let e = accepted read in
-    let short = lt-ltb (length (now (a .out))) (m .parts .«section_length» .0) (omega arith) in
+    let a = the tie.Start (search) .args in
+    let r = the tie.After-judge (search) .judge .ensures in
+    let e = summarize-refused (a .security-first) (now (a .s)) (subst (λ (x : Refusal). ¬ (x .number ≡ 0)) r (c .if1 .taken)) in
+    (rw (e, ← r), rw e)
+
+first : tie.Else1 → Bool
+first c = the tie.Start (search) .args .security-first
+
+input : tie.Else1 → List ℕ
+input c = now (the tie.Start (search) .args .s)
+
+none : (c : tie.Else1) → judge (first c) (input c) .number ≡ 0
+unfolding first input
+none c = sym (ap (λ (x : Refusal). x .number) (the tie.After-judge (search) .judge .ensures)) ∙ c .if1 .left
+
+read : (c : tie.Else1) → Passed (first c) (input c)
+read c = accepted (first c) (input c) (none c)
+
+start : (c : tie.After-properties-start) → c .properties-start .result .0 ≡ startAt (first (c .before)) (input (c .before))
+unfolding first input
+start c = c .properties-start .ensures ∙ read (c .before) .start .read
+
+fields : (c : tie.After-properties-fields)
+    → c .properties-fields .result ≡ fieldsAt (first (c .before .before)) (input (c .before .before))
+unfolding first input
+fields c =
+    c .properties-fields .ensures .0 ∙ ap (propertiesRead (input (c .before .before))) (start (c .before)) ∙ read (c .before .before) .fields
+
+-- the section ends within the limit, so the end is not cut
+end-told : (c : tie.After-section-end)
+    → c .section-end .result .0 ≡ summaryAt (first (c .before .before .before)) (input (c .before .before .before)) .parts .«section_length» .0
+end-told c =
+    let past = c .before .before .before in
+    let e = section-ends (first past) (input past) (none past) in
+    let f = ap propertiesLength (fields (c .before)) in
+    omega (arith, c .section-end .ensures, start (c .before .before), e .end, e .small)
+
+returns-2 : tie.Need-returns-2
+unfolding first input supportAnswer supportBytes copyAnswer copyBytes
+returns-2 c =
+    let end = end-told (search) in
+    let out = now (the tie.Start (search) .args .out) in
+    let short = lt-ltb (length out) (summaryAt (first (search)) (input (search)) .parts .«section_length» .0) (omega arith) in
+    let e = summarize-passed (first (search)) (input (search)) (none (search)) in
     (rw (e, short), rw (e, short))
 
 copy-section-requires : tie.Need-copy-section-requires
-unfolding summaryOf
+unfolding first input
 copy-section-requires c κs =
-    let read = c .before .before .before .before .before in
-    let a = read .before .before .before .before .before .args in
-    let e = accepted read in
-    let m = read .m .given .0 .0 in
-    let first : a .security-first ≡ m .«security_first» =
-    sym (ap (λ (x : Summary). x .«security_first») (section-passed (a .security-first) (now (a .s)) m .0 e .properties .summary)) in
-    (subst (λ (b : Bool). summarize b (now (a .s)) ≡ Accepted m) first e, omega arith)
-
-returns-2 : tie.Need-returns-2
-unfolding supportAnswer supportBytes copyAnswer copyBytes
-returns-2 c =
-    let e = sym (c .before .before .before .summarize .ensures) ∙ c .before .r .given .1 in
-    (rw e, rw e)
-
-same-length : tie.Need-same-length
-same-length c = search needs
+    record {
+      passed = none (search);
+      fields = fields (search);
+      start = start (search);
+      end = end-told (search);
+      output = omega arith;
+    }
 
 returns-3 : tie.Need-returns-3
-unfolding supportAnswer supportBytes copyAnswer copyBytes copyOf put
+unfolding first input supportAnswer supportBytes copyAnswer copyBytes copyOf over
 returns-3 c =
-    let read = c .before .before .before .before .before .before .before .before in
-    let a = read .before .before .before .before .before .args in
-    let m = read .m .given .0 .0 in
-    let e = accepted read in
-    let room = le-ltb (length (now (a .out))) (m .parts .«section_length» .0) (omega arith) in
-    let n = length-judged (a .security-first) (now (a .s)) m (section-passed (a .security-first) (now (a .s)) m .0 e) in (
-      rw (e, room),
-      rw (e, room) (c .before .before .copy-section .ensures ∙ ap (λ (k : ℕ). copyOf m (now (a .s)) ++ drop k (now (a .out))) n),
+    let m = summaryAt (first (search)) (input (search)) in
+    let s = input (search) in
+    let out = now (the tie.Start (search) .args .out) in
+    let end = end-told (search) in
+    let e = summarize-passed (first (search)) s (none (search)) in
+    let room = le-ltb (length out) (m .parts .«section_length» .0) (omega arith) in
+    let a = judge-passed (first (search)) s .0 (none (search)) in
+    let size = length-masked-le (judged m) s (judged-le (first (search)) s m a) ∙ length-judged (first (search)) s m a in (
+      rw (e, room) (ap (λ (n : ℕ). Written (bytes n)) end),
+      rw (e, room) (c .before .before .copy-section .ensures ∙ ap (λ (k : ℕ). copyOf m s ++ drop k out) size),
     )
 
 pub support-copy-spec : {M : Type 1} → statement M
 support-copy-spec =
     tie.close
     (tie.spec
-    summarize-requires
-    enum-known-r
-    enum-known-m
+    (λ c κs. search needs)
     returns
-    copy-section-requires
+    (λ c κs. search needs)
+    (λ c κs. search needs)
+    (λ c κs. search needs)
     returns-2
-    same-length
+    copy-section-requires
+    (λ c. search needs)
     returns-3)

@@ -1,96 +1,70 @@
--- `support::header::copy_properties` meets its contract: its runs are those of the mask, each where the one before it ends.
--- Assumes nothing.
+-- The runs are those of the mask, each where the one before it ends.
 use Prim.Native.Nat.{ℕ, _+_, _-_}
 use denote.Ref.{now}
-use mathlib.Core.Path.{_≡_, refl, ap, _∙_}
+use mathlib.Core.Path.{refl, ap, _∙_}
 use mathlib.Core.List.{List}
 use native.Mathlib.Omega.{arith}
-use borrow.Author.Needs.{needs}
-use lib.ListN.{length}
-use Rattle.support.specs.Put.{put}
+use Rattle.octets.specs.Over.{over}
+use Rattle.octets.proofs.Laws.Steps.{the}
+use Rattle.rules.specs.Judged.{masked}
+use Rattle.support.proofs.Laws.Copied.{copied-none, copied-run, copied-zeros}
 use Rattle.support.proofs.Laws.Mask.{properties-runs}
-use Rattle.support.proofs.Laws.Put.{written-none, written-run}
+use borrow.Author.Needs.{needs}
 use Rattle.support.proofs.header.copy_properties.Statement.{statement}
 use Rattle.support.proofs.header.copy_properties.Tie as tie
 
--- the first three runs leave the output as long as it was, which `omega` does not see from as far as the last
-same-out : (c : tie.After-hide) → length (c .hide .last .0) ≡ length (now (c .before .before .before .before .before .before .before .before .before .before .before .before .before .args .out))
-same-out c = omega arith
+entry : tie.After-hide2 → tie.Start
+entry c = search
 
-bytes-requires : tie.Need-bytes-requires
-bytes-requires c κs = search needs
+units : tie.After-hide2 → tie.After-bytes
+units c = search
 
-add-hidden : tie.Need-add-hidden
-add-hidden c = search needs
+first : tie.After-hide2 → tie.After-low-four
+first c = search
 
-low-four-requires : tie.Need-low-four-requires
-low-four-requires c κs = search needs
+second : tie.After-hide2 → tie.After-keep
+second c = search
 
-keep-requires : tie.Need-keep-requires
-keep-requires c κs = search needs
-
-hide-requires : tie.Need-hide-requires
-hide-requires c κs = search needs
-
-keep-requires-2 : tie.Need-keep-requires-2
-keep-requires-2 c κs = search needs
-
-hide-requires-2 : tie.Need-hide-requires-2
-hide-requires-2 c κs = search needs
-
-add-keep : tie.Need-add-keep
-add-keep c = search needs
-
-keep-requires-3 : tie.Need-keep-requires-3
-keep-requires-3 c κs = search needs
-
-sub-hide : tie.Need-sub-hide
-sub-hide c = search needs
-
-hide-requires-3 : tie.Need-hide-requires-3
-hide-requires-3 c κs = omega (arith, c .before .before .before .before .before .before .before .before .before .before .before .before .before .before .before .before .before .before .before .before .before .before .before .before .before .before .before .before .pre, same-out (c .before .before .before .before .before .before .before .before .before .before .before .before .before .before .before))
-
-same-length : tie.Need-same-length
-same-length c = search needs
+third : tie.After-hide2 → tie.After-hide
+third c = search
 
 returns : tie.Need-returns
+unfolding entry units first second third
 returns c =
-    let c7 = c .before .before in
-    let c6 = c7 .before .before .before .before in
-    let c5 = c6 .before .before .before .before in
-    let c4 = c5 .before .before .before .before in
-    let c3 = c4 .before .before .before .before in
-    let c2 = c3 .before .before .before .before in
-    let c1 = c2 .before .before .before .before in
-    let start = c1 .before .before .before .before .before in
+    let sixth : tie.After-keep3 = search in
+    let fifth : tie.After-hide2 = search in
+    let fourth : tie.After-keep2 = search in
+    let start = entry fifth in
     let s = now (start .args .s) in
+    let out = now (start .args .out) in
     let f = start .args .f in
     let l = start .pre in
-    let label = c1 .before .before .bytes .result .0 in
-    let size = start .args .size in
-    let w1 = written-run 4 0 1 (written-none s (now (start .args .out))) refl (omega arith) (c1 .low-four .ensures) in
-    let w2 = written-run 8 1 3 w1 refl (omega arith) (c2 .keep .ensures) in
-    let w3 = written-run 0 4 20 w2 refl (omega arith) (c3 .hide .ensures s (omega arith)) in
-    let w4 = written-run 8 24 4 w3 refl (omega arith) (c4 .keep2 .ensures) in
-    let w5 = written-run 0 28 4 w4 refl (omega arith) (c5 .hide2 .ensures s (omega arith)) in
-    let w6 = written-run 8 32 (24 + label) w5 refl (omega arith) (c6 .keep3 .ensures) in
-    let w7 = written-run 0 (56 + label) (size - (56 + label)) w6 (omega arith) (omega arith) (c7 .hide3 .ensures s (omega arith)) in
-    w7 .bytes ∙ ap (λ (ks : List ℕ). put ks s (now (start .args .out))) (properties-runs f label size (c1 .before .before .bytes .ensures) (l .end))
+    let label = units fifth .bytes .result .0 in
+    let twice = units fifth .bytes .ensures in
+    let size = start .args .size .0 in
+    let r1 = copied-run 4 0 1 (copied-none s out) refl (omega arith) (first fifth .low-four .ensures) in
+    let r2 = copied-run 8 1 3 r1 refl (omega arith) (second fifth .keep .ensures) in
+    let r3 = copied-zeros 4 20 r2 refl (omega arith) (third fifth .hide .ensures) in
+    let r4 = copied-run 8 24 4 r3 refl (omega arith) (fourth .keep2 .ensures) in
+    let r5 = copied-zeros 28 4 r4 refl (omega arith) (fifth .hide2 .ensures) in
+    let r6 = copied-run 8 32 (24 + label) r5 refl (omega arith) (sixth .keep3 .ensures) in
+    let r7 = copied-zeros (56 + label) (size - (56 + label)) r6 (omega arith) (omega arith) (c .before .before .hide3 .ensures) in
+    r7 .bytes ∙ ap (λ (ks : List ℕ). over (masked ks s) out) (properties-runs f label size twice (l .end))
 
 pub copy-properties-spec : {M : Type 1} → statement M
 copy-properties-spec =
     tie.close
     (tie.spec
-    bytes-requires
-    add-hidden
-    low-four-requires
-    keep-requires
-    hide-requires
-    keep-requires-2
-    hide-requires-2
-    add-keep
-    keep-requires-3
-    sub-hide
-    hide-requires-3
-    same-length
+    (λ c κs. search needs)
+    (λ c. search needs)
+    (λ c κs. search needs)
+    (λ c κs. search needs)
+    (λ c κs. search needs)
+    (λ c κs. search needs)
+    (λ c κs. search needs)
+    (λ c. search needs)
+    (λ c κs. search needs)
+    (λ c. search needs)
+    (λ c κs. search needs)
+    (λ c. search needs)
     returns)

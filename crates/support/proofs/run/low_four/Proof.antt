@@ -1,24 +1,30 @@
--- `support::run::low_four` meets its contract: one store puts one byte.
--- Assumes nothing.
+-- One store writes one byte.
 use denote.Ref.{now}
+use mathlib.Core.Path.{ap, sym, _∙_}
+use mathlib.Core.List.{List, [], _∷_}
+use Prim.Native.Nat.{ℕ, _%_}
+use native.Mathlib.Omega.{arith}
+use lib.ListN.{getD, drop}
+use lib.Seq.{drop-cons}
+use Rattle.octets.specs.Over.{overAt}
+use Rattle.octets.proofs.Laws.Over.{over-one}
+use Rattle.octets.proofs.Laws.Steps.{the}
+use Rattle.rules.specs.Judged.{masked}
 use borrow.Author.Needs.{needs}
-use Rattle.support.proofs.Laws.Put.{put-one}
 use Rattle.support.proofs.run.low_four.Statement.{statement}
 use Rattle.support.proofs.run.low_four.Tie as tie
 
-shared-slice-read-out : tie.Need-shared-slice-read-out
-shared-slice-read-out c = search needs
-
-slice-write-out : tie.Need-slice-write-out
-slice-write-out c = search needs
-
-same-length : tie.Need-same-length
-same-length c = search needs
-
 returns : tie.Need-returns
+unfolding masked
 returns c =
-    let a = c .before .args in
-    put-one 4 (a .at) (now (a .s)) (now (a .out)) (search needs) (search needs)
+    let a = the tie.Start (search) .args in
+    rw (drop-cons (now (a .s)) (a .at .0) 0 (search needs)) (over-one (a .at .0) (getD (now (a .s)) (a .at .0) 0 % 16) (now (a .out)) (search needs))
 
 pub low-four-spec : {M : Type 1} → statement M
-low-four-spec = tie.close (tie.spec shared-slice-read-out slice-write-out same-length returns)
+low-four-spec =
+    tie.close
+    (tie.spec
+    (λ c. search needs)
+    (λ c. search needs)
+    (λ c. search needs)
+    returns)

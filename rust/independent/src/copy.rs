@@ -1,15 +1,27 @@
 //! The support copy, the comparison of summaries and the label for display.
 
+use crate::read::read_by;
 use crate::section::{Part, Summary, PROPERTIES_FIXED, SECURITY_FIXED};
-use crate::steps::room;
+use crate::steps::{SectionStep, READING};
 use crate::{read, Refusal};
 
 /// Writes the section with every private bit zero to the start of `out` and gives its length.
 /// "Refused as reading is, then 13"; a refusal writes nothing.
 pub fn support_copy(input: &[u8], security_first: bool, out: &mut [u8]) -> Result<usize, Refusal> {
-    let section = read(input, security_first)?;
+    support_copy_by(&READING, input, security_first, out)
+}
+
+/// [`support_copy`] by the steps of `order`.
+#[inline(always)]
+pub(crate) fn support_copy_by(
+    order: &[SectionStep],
+    input: &[u8],
+    security_first: bool,
+    out: &mut [u8],
+) -> Result<usize, Refusal> {
+    let section = read_by(order, input, security_first, out.len())?;
     let Summary { security, parts, length, .. } = section.summary;
-    let copy = room(out, length)?;
+    let copy = &mut out[..length];
     copy.fill(0);
     let mut keep = |part: Part| {
         let range = part.start..part.start + part.length;

@@ -8,8 +8,8 @@
 //! - [`read`], [`support_copy`], [`same_summary`], [`label_shown`]: sections read and copied.
 //! - [`mod@write`]: sections written from values and parts.
 //! - [`queue`]: queue format images, [`request`]: send requests, [`listing`]: day files.
-//! - [`generate`]: cases made at random for a comparison; [`planted`]: wrong versions that a
-//!   comparison has to find.
+//! - [`generate`]: cases made at random for a comparison; [`neighbours`]: what steps a case breaks
+//!   together; [`planted`]: wrong versions that a comparison has to find.
 
 #![forbid(unsafe_code)]
 #![warn(missing_docs)]
@@ -19,6 +19,8 @@ mod copy;
 pub mod generate;
 pub mod listing;
 mod lists;
+pub mod neighbours;
+mod order;
 pub mod planted;
 pub mod queue;
 mod read;

@@ -6,6 +6,7 @@
 use std::io::{self, ErrorKind, Read, Write};
 
 use crate::bytes::u32_at;
+use crate::order::{first_failure, Judged, Step};
 use crate::{read, Refusal};
 
 /// The bytes of a record's head.
@@ -57,20 +58,57 @@ pub enum Next {
 /// The first record of `rest`, all the bytes that are left of a day file. [`SECTION_MOST`] +
 /// [`HEAD`] of them are enough.
 pub fn next_record(rest: &[u8]) -> Next {
-    if rest.is_empty() {
-        return Next::End;
+    next_by(&RECORD, rest)
+}
+
+/// [`next_record`] by the tests of `order`.
+#[inline(always)]
+pub(crate) fn next_by(order: &[RecordStep], rest: &[u8]) -> Next {
+    if let Some(step) = first_failure(order, rest) {
+        return step.answer;
     }
-    let Some((head, behind)) = rest.split_first_chunk::<HEAD>() else {
-        return Next::Stop;
-    };
-    let &[0x57, 0x52, security_first @ 0..=1, 0, ..] = head else {
-        return Next::Stop;
-    };
+    let (head, behind) = rest.split_at(HEAD);
     let length = u32_at(head, 4) as usize;
-    if length > SECTION_MOST || length > behind.len() {
-        return Next::Stop;
+    Next::Record { size: HEAD + length, answer: answer(&behind[..length], head[2] == 1) }
+}
+
+/// A test of what is left of a day file; it answers with what ends the listing.
+pub(crate) type RecordStep = Step<fn(&[u8]) -> bool, Next>;
+
+const fn stop(name: &'static str, fails: fn(&[u8]) -> bool) -> RecordStep {
+    Step { name, answer: Next::Stop, test: fails }
+}
+
+/// The tests before a record is read. Those of a head look at the bytes that are there.
+pub(crate) const RECORD: [RecordStep; 7] = [
+    Step { name: "end", answer: Next::End, test: |rest| rest.is_empty() },
+    stop("cut head", |rest| rest.len() < HEAD),
+    stop("mark", |rest| rest.get(..2).is_some_and(|mark| mark != [0x57, 0x52])),
+    stop("security byte", |rest| rest.get(2).is_some_and(|&first| first > 1)),
+    stop("zero byte", |rest| rest.get(3).is_some_and(|&zero| zero != 0)),
+    stop("length", |rest| section_length(rest) > SECTION_MOST),
+    stop("cut section", |rest| section_length(rest) > rest.len().saturating_sub(HEAD)),
+];
+
+/// The name of the test that ends the listing before `rest`, if one does.
+pub fn ended_by(rest: &[u8]) -> Option<&'static str> {
+    first_failure(&RECORD, rest).map(|step| step.name)
+}
+
+/// The length in a record's head; 0 where the head is cut.
+pub fn section_length(rest: &[u8]) -> usize {
+    rest.get(4..HEAD).map_or(0, |length| u32_at(length, 0) as usize)
+}
+
+/// What is left of a day file.
+impl Judged for [u8] {
+    type Test = fn(&[u8]) -> bool;
+    type Answer = Next;
+
+    #[inline(always)]
+    fn fails(&self, test: &Self::Test) -> bool {
+        test(self)
     }
-    Next::Record { size: HEAD + length, answer: answer(&behind[..length], security_first == 1) }
 }
 
 /// Reads one record's section.
@@ -133,11 +171,13 @@ fn push_decimal(lines: &mut Vec<u8>, mut number: u64) {
 /// the number of records, or `stop` and the number of the record that is wrong or cut. Its memory
 /// does not depend on the file.
 pub fn list(input: impl Read, output: impl Write) -> io::Result<()> {
-    list_by(push_line, input, output)
+    list_by(&RECORD, push_line, input, output)
 }
 
-/// [`list`], with the lines made by `push`.
+/// [`list`] by the tests of `order`, with the lines made by `push`.
+#[inline(always)]
 pub(crate) fn list_by(
+    order: &[RecordStep],
     push: impl Fn(&mut Vec<u8>, u64, &Answer),
     input: impl Read,
     mut output: impl Write,
@@ -147,7 +187,7 @@ pub(crate) fn list_by(
     lines.extend_from_slice(HEADER.as_bytes());
     let mut number = 0;
     let last = loop {
-        match next_record(window.rest()?) {
+        match next_by(order, window.rest()?) {
             Next::End => break "end ",
             Next::Stop => break "stop ",
             Next::Record { size, answer } => {

@@ -1,13 +1,19 @@
-//! Wrong versions, one or two for each kind, that a comparison has to find. Each is the plain
-//! function with its answer or its output changed a little.
+//! Wrong versions that a comparison has to find: for each kind one or two plain functions with their
+//! answer or their output changed a little, and every function with two neighbouring steps of its
+//! list exchanged.
 
 use std::io::{self, Read, Write};
 
 use crate::bytes::padded;
-use crate::listing::{self, Answer, Line};
-use crate::queue::Image;
-use crate::request::{self, Request};
+use crate::copy::support_copy_by;
+use crate::listing::{self, Answer, Line, RECORD};
+use crate::order::exchanged;
+use crate::queue::{self, Image};
+use crate::read::read_by;
+use crate::request::{self, Request, SENDING};
 use crate::section::{Part, PROPERTIES_FIXED};
+use crate::steps::{ENDLESS, READING, WRITING};
+use crate::write::write_by;
 use crate::{number, Refusal, Section, SectionValues};
 
 /// Reads with the extension padded to 4 before the body, the customer's old fault.
@@ -40,7 +46,7 @@ pub fn write_section(values: &SectionValues<'_>, out: &mut [u8]) -> Result<usize
 
 /// Refuses an image whose reserved bytes are not zero.
 pub fn read_image(input: &[u8]) -> Result<Image<'_>, Refusal> {
-    let image = crate::queue::read_image(input)?;
+    let image = queue::read_image(input)?;
     if input[2..4] == [0, 0] {
         Ok(image)
     } else {
@@ -57,7 +63,7 @@ pub fn write_image(
     out: &mut [u8],
 ) -> Result<usize, Refusal> {
     let stood = out.get(2..4).map(|reserved| [reserved[0], reserved[1]]);
-    let length = crate::queue::write_image(kind, suffix_and_flags, fixed, text, out)?;
+    let length = queue::write_image(kind, suffix_and_flags, fixed, text, out)?;
     if let Some(reserved) = stood {
         out[2..4].copy_from_slice(&reserved);
     }
@@ -80,6 +86,67 @@ pub fn send(request: &Request<'_>, out: &mut [u8]) -> Result<usize, Refusal> {
     Ok(length)
 }
 
+/// Reads with the step at `at` of its list and the next one exchanged; so do the others below.
+pub fn read_exchanged(at: usize, input: &[u8], security_first: bool) -> Result<Section<'_>, Refusal> {
+    read_by(&exchanged(READING, at), input, security_first, ENDLESS)
+}
+
+/// Copies with two steps exchanged.
+pub fn support_copy_exchanged(
+    at: usize,
+    input: &[u8],
+    security_first: bool,
+    out: &mut [u8],
+) -> Result<usize, Refusal> {
+    support_copy_by(&exchanged(READING, at), input, security_first, out)
+}
+
+/// Writes a section with two steps exchanged.
+pub fn write_exchanged(at: usize, values: &SectionValues<'_>, out: &mut [u8]) -> Result<usize, Refusal> {
+    write_by(&exchanged(WRITING, at), values, out)
+}
+
+/// Reads a queue format with two steps exchanged.
+pub fn read_image_exchanged(at: usize, input: &[u8]) -> Result<Image<'_>, Refusal> {
+    queue::read_by(&exchanged(queue::READING, at), input)
+}
+
+/// Writes a queue format with two steps exchanged.
+pub fn write_image_exchanged(
+    at: usize,
+    format: [u8; 2],
+    fixed: &[u8],
+    text: &[u8],
+    out: &mut [u8],
+) -> Result<usize, Refusal> {
+    queue::write_by(&exchanged(queue::WRITING, at), format, fixed, text, out)
+}
+
+/// Defaults with two steps exchanged.
+pub fn defaulted_exchanged<'a>(at: usize, request: &Request<'a>) -> Result<request::Properties<'a>, Refusal> {
+    request::defaulted_by(&exchanged(SENDING, at), request, ENDLESS)
+}
+
+/// Sends with two steps exchanged.
+pub fn send_exchanged(at: usize, request: &Request<'_>, out: &mut [u8]) -> Result<usize, Refusal> {
+    request::send_by(&exchanged(SENDING, at), request, out)
+}
+
+/// Lists with two tests before a record exchanged.
+pub fn list_exchanged(at: usize, input: impl Read, output: impl Write) -> io::Result<()> {
+    listing::list_by(&exchanged(RECORD, at), listing::push_line, input, output)
+}
+
+/// The tests of a record's head without which a record can still be read.
+pub const HEAD_TESTS: [&str; 4] = ["mark", "security byte", "zero byte", "length"];
+
+/// Lists without one of the [`HEAD_TESTS`].
+pub fn list_without(test: &str, input: impl Read, output: impl Write) -> io::Result<()> {
+    let mut order = RECORD.to_vec();
+    order.retain(|step| step.name != test);
+    listing::list_by(&order, listing::push_line, input, output)
+}
+
 /// Gives the label's bytes where its 16-bit units have to stand.
 pub fn line(number: u64, answer: &Answer) -> String {
     listing::line(number, &label_in_bytes(answer))
@@ -90,7 +157,7 @@ pub fn list(input: impl Read, output: impl Write) -> io::Result<()> {
     let push = |lines: &mut Vec<u8>, number: u64, answer: &Answer| {
         listing::push_line(lines, number, &label_in_bytes(answer));
     };
-    listing::list_by(push, input, output)
+    listing::list_by(&RECORD, push, input, output)
 }
 
 fn label_in_bytes(answer: &Answer) -> Answer {

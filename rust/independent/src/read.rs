@@ -4,84 +4,94 @@ use crate::bytes::{u16_at, u32_at};
 use crate::lists::{encryption_is_listed, hash_is_listed, privacy_is_listed};
 use crate::section::{Parts, Properties, Section, Security, SecurityFlags, Summary};
 use crate::section::{PROPERTIES_FIXED, SECURITY_FIXED};
-use crate::steps::{identity_begins_right, label_is_right, provider_is_right, require};
-use crate::steps::{PropertiesShape, SecurityShape};
-use crate::{number, Refusal};
+use crate::steps::{Headers, PropertiesHeader, SectionStep, SecurityHeader, ENDLESS, READING};
+use crate::Refusal;
 
 /// Reads the section at the start of `input`; bytes behind it are not looked at. "The first step
 /// that fails gives the refusal. Its place is the offset of the header being read."
 pub fn read(input: &[u8], security_first: bool) -> Result<Section<'_>, Refusal> {
-    let mut parts = Parts::default();
-    let (security, at) = if security_first {
-        let (security, length) = read_security(input, &mut parts).map_err(Refusal::at_start)?;
-        (Some(security), length)
-    } else {
-        (None, 0)
-    };
-    read_properties(input, at, security, parts).map_err(|number| Refusal { number, place: at })
+    read_by(&READING, input, security_first, ENDLESS)
 }
 
-/// Steps S1 to S11. Fills in the five security parts; gives the header and its length.
-fn read_security<'a>(input: &'a [u8], parts: &mut Parts) -> Result<(Security<'a>, usize), u32> {
-    let fixed = input.first_chunk::<SECURITY_FIXED>().ok_or(number::INPUT_SHORT)?;
-    let mut security = Security {
-        flags: SecurityFlags::new(u16_at(fixed, 0)),
-        identity_size: u16_at(fixed, 2),
-        key_size: u16_at(fixed, 4),
-        signature_size: u16_at(fixed, 6),
-        certificate_size: u32_at(fixed, 8),
-        provider_size: u32_at(fixed, 12),
-        provider_type: None,
-        provider_name: &[],
-    };
-    let shape = SecurityShape {
-        flags: security.flags,
-        identity: security.identity_size.into(),
-        key: security.key_size.into(),
-        signature: security.signature_size.into(),
-        certificate: security.certificate_size.into(),
-        provider: security.provider_size.into(),
-    };
-    let length = shape.lay_out(parts)?;
-    require(length <= input.len(), number::INPUT_SHORT)?;
-
-    let identity = parts.identity.of(input);
-    require(identity_begins_right(security.flags.sender_kind(), identity), number::IDENTITY)?;
-    let info = parts.provider.of(input);
-    require(provider_is_right(info), number::PROVIDER)?;
-    if let Some((kind, name)) = info.split_first_chunk() {
-        security.provider_type = Some(u32::from_le_bytes(*kind));
-        security.provider_name = name;
-    }
-    Ok((security, length))
-}
-
-/// Steps P1 to P7, for a MessagePropertiesHeader at `at`, which is a multiple of 4.
-fn read_properties<'a>(
+/// [`read`] by the steps of `order`, with so many bytes of output lent for a copy.
+#[inline(always)]
+pub(crate) fn read_by<'a>(
+    order: &[SectionStep],
     input: &'a [u8],
-    at: usize,
-    security: Option<Security<'a>>,
-    mut parts: Parts,
-) -> Result<Section<'a>, u32> {
-    let fixed = input[at..].first_chunk::<PROPERTIES_FIXED>().ok_or(number::INPUT_SHORT)?;
-    let mut properties = properties_of(fixed);
-    let shape = PropertiesShape {
-        at,
-        label_bytes: 2 * u64::from(properties.label_length),
-        class: properties.class,
-        message_size: properties.message_size.into(),
-        allocation: properties.allocation.into(),
-        extension: properties.extension_size.into(),
-    };
-    let length = shape.lay_out(&mut parts)?;
-    require(length <= input.len(), number::INPUT_SHORT)?;
-    properties.label = parts.label.of(input);
-    require(label_is_right(properties.label), number::LABEL)?;
+    security_first: bool,
+    output: usize,
+) -> Result<Section<'a>, Refusal> {
+    let headers = headers(input, security_first, output);
+    headers.judge(order)?;
+    Ok(section(input, &headers))
+}
 
-    let authentication_fails = authentication_fails(&security, &properties);
-    let decryption_fails = decryption_fails(&security, &properties);
-    Ok(Section {
-        summary: Summary { security, properties, authentication_fails, decryption_fails, parts, length },
+/// What the steps look at. A header that is cut counts as zeros: S1 or P1 comes before all that
+/// looks at its fields.
+pub(crate) fn headers(input: &[u8], security_first: bool, output: usize) -> Headers<'_> {
+    let security = security_first.then(|| security_header(input));
+    let at = security.as_ref().map_or(0, SecurityHeader::length);
+    Headers { security, properties: properties_header(input, at), output }
+}
+
+fn security_header(input: &[u8]) -> SecurityHeader<'_> {
+    let fixed = input.first_chunk::<SECURITY_FIXED>().unwrap_or(&[0; SECURITY_FIXED]);
+    let mut header = SecurityHeader {
+        input: input.len(),
+        flags: SecurityFlags::new(u16_at(fixed, 0)),
+        identity: u16_at(fixed, 2).into(),
+        key: u16_at(fixed, 4).into(),
+        signature: u16_at(fixed, 6).into(),
+        certificate: u32_at(fixed, 8).into(),
+        provider: u32_at(fixed, 12).into(),
+        identity_bytes: &[],
+        provider_info: &[],
+    };
+    let mut parts = Parts::default();
+    header.lay_out(&mut parts);
+    header.identity_bytes = parts.identity.if_there(input);
+    header.provider_info = parts.provider.if_there(input);
+    header
+}
+
+fn properties_header(input: &[u8], at: u64) -> PropertiesHeader<'_> {
+    let fixed = fixed_at(input, at).unwrap_or(&[0; PROPERTIES_FIXED]);
+    let mut header = PropertiesHeader {
+        input: input.len(),
+        at,
+        label_bytes: 2 * u64::from(fixed[1]),
+        class: u16_at(fixed, 2),
+        message_size: u32_at(fixed, 32).into(),
+        allocation: u32_at(fixed, 36).into(),
+        extension: u32_at(fixed, 52).into(),
+        label: &[],
+    };
+    let mut parts = Parts::default();
+    header.lay_out(&mut parts);
+    header.label = parts.label.if_there(input);
+    header
+}
+
+/// The fixed bytes of a MessagePropertiesHeader, where they are there.
+fn fixed_at(input: &[u8], at: u64) -> Option<&[u8; PROPERTIES_FIXED]> {
+    input.get(at as usize..)?.first_chunk()
+}
+
+/// The full reading of a section that passed its steps.
+fn section<'a>(input: &'a [u8], headers: &Headers<'a>) -> Section<'a> {
+    let parts = headers.parts();
+    let security = headers.security.as_ref().map(security_of);
+    let fixed = fixed_at(input, headers.properties.at).expect("P1 passed");
+    let properties = Properties { label: headers.properties.label, ..properties_of(fixed) };
+    Section {
+        summary: Summary {
+            security,
+            properties,
+            authentication_fails: authentication_fails(&security, &properties),
+            decryption_fails: decryption_fails(&security, &properties),
+            parts,
+            length: headers.properties.length() as usize,
+        },
         correlation_id: fixed[4..].first_chunk().expect("20 of the 56 bytes"),
         application_tag: u32_at(fixed, 28),
         identity: parts.identity.of(input),
@@ -90,7 +100,23 @@ fn read_properties<'a>(
         certificate: parts.certificate.of(input),
         extension: parts.extension.of(input),
         body: parts.body.of(input),
-    })
+    }
+}
+
+/// The judged fields of a SecurityHeader. Its sizes were read from their 16 or 32 bits, so that the
+/// casts keep their values.
+fn security_of<'a>(header: &SecurityHeader<'a>) -> Security<'a> {
+    let info = header.provider_info.split_first_chunk();
+    Security {
+        flags: header.flags,
+        identity_size: header.identity as u16,
+        key_size: header.key as u16,
+        signature_size: header.signature as u16,
+        certificate_size: header.certificate as u32,
+        provider_size: header.provider as u32,
+        provider_type: info.map(|(kind, _)| u32::from_le_bytes(*kind)),
+        provider_name: info.map_or(&[], |(_, name)| name),
+    }
 }
 
 /// The judged numbers of the fixed bytes; the label is not there yet.

@@ -2,8 +2,9 @@
 
 use crate::bytes::put_units;
 use crate::lists::class_is_listed;
-use crate::section::{Parts, SecurityFlags, LABEL_MOST};
-use crate::steps::{identity_is_right, require, PropertiesShape, SecurityShape, LABEL_BYTES_MOST, PART_MOST};
+use crate::order::{first_failure, Judged, Step};
+use crate::section::{SecurityFlags, LABEL_MOST, LIMIT};
+use crate::steps::{identity_is_right, Headers, PropertiesHeader, SecurityHeader, ENDLESS, LABEL_BYTES_MOST};
 use crate::{number, write_section, Refusal, SectionValues};
 
 /// The most units of a title that go into a label, before its null.
@@ -140,13 +141,41 @@ pub struct Properties<'a> {
 /// Steps 1 to 6 without 13. Gives the defaulted values of a request they pass; every refusal has
 /// place 0.
 pub fn defaulted<'a>(request: &Request<'a>) -> Result<Properties<'a>, Refusal> {
-    checked(request).map_err(Refusal::at_start)
+    defaulted_by(&SENDING, request, ENDLESS)
 }
 
 /// Writes the section of a legal request to the start of `out` and gives its length. Refuses as
 /// [`defaulted`] does, then with 13; a refusal writes nothing.
 pub fn send(request: &Request<'_>, out: &mut [u8]) -> Result<usize, Refusal> {
-    let properties = defaulted(request)?;
+    send_by(&SENDING, request, out)
+}
+
+/// [`defaulted`] by the steps of `order`, with so many bytes of output lent.
+#[inline(always)]
+pub(crate) fn defaulted_by<'a>(
+    order: &[RequestStep],
+    request: &Request<'a>,
+    output: usize,
+) -> Result<Properties<'a>, Refusal> {
+    let filled_in = FilledIn::new(request, output);
+    if let Some(step) = first_failure(order, &filled_in) {
+        return Err(Refusal::at_start(step.answer));
+    }
+    let mut properties = filled_in.properties;
+    if request.transaction {
+        properties.delivery = 1;
+    }
+    Ok(properties)
+}
+
+/// [`send`] by the steps of `order`.
+#[inline(always)]
+pub(crate) fn send_by(
+    order: &[RequestStep],
+    request: &Request<'_>,
+    out: &mut [u8],
+) -> Result<usize, Refusal> {
+    let properties = defaulted_by(order, request, out.len())?;
     let mut label = [0; LABEL_BYTES_MOST];
     let mut provider_info = [0; PROVIDER_MOST];
     let label_length = put_label(&properties, &mut label);
@@ -159,18 +188,92 @@ pub fn send(request: &Request<'_>, out: &mut [u8]) -> Result<usize, Refusal> {
     write_section(&values, out)
 }
 
-fn checked<'a>(request: &Request<'a>) -> Result<Properties<'a>, u32> {
-    let mut properties = filled_in(request);
-    check_numbers(&properties)?;
-    if request.transaction {
-        properties.delivery = 1;
+/// A step of a request; it answers with the refusal's number.
+pub(crate) type RequestStep = Step<fn(&FilledIn<'_, '_>) -> bool, u32>;
+
+const fn step(name: &'static str, number: u32, fails: fn(&FilledIn<'_, '_>) -> bool) -> RequestStep {
+    Step { name, answer: number, test: fails }
+}
+
+/// Steps 1 to 6.
+pub(crate) const SENDING: [RequestStep; 13] = [
+    step("20", number::RANGE, |f| f.is_out_of_range()),
+    step("10", number::CLASS, |f| !u16::try_from(f.properties.class).is_ok_and(class_is_listed)),
+    step("21", number::PRIVACY, |f| f.properties.privacy_level > 2),
+    step("22", number::DIRECT_PRIVACY, |f| f.request.direct_queue && f.properties.privacy_level != 0),
+    step("23", number::ALGORITHM_ABSENT, |f| {
+        f.request.privacy_level.is_some() && f.request.encryption_algorithm.is_none()
+    }),
+    step("24", number::HASH_ABSENT, |f| f.is_signed() && f.request.hash_algorithm.is_none()),
+    step("25", number::REQUEST_IDENTITY, |f| !f.identity_fits()),
+    step("26", number::REQUEST_PROVIDER, |f| f.is_signed() && !f.provider_fits()),
+    step("27", number::SPLIT, |f| !f.split_fits),
+    step("28", number::PART_SIZE, |f| f.headers.security.as_ref().is_some_and(SecurityHeader::part_is_long)),
+    step("11", number::ALLOCATION, |f| f.headers.properties.allocation_is_wrong()),
+    step("8", number::LIMIT, |f| f.headers.properties.length() > LIMIT),
+    step("13", number::OUTPUT_SHORT, |f| f.headers.properties.length() > f.headers.output as u64),
+];
+
+/// A request as its steps look at it: every absent value filled in, the title and the signature cut.
+pub(crate) struct FilledIn<'r, 'a> {
+    request: &'r Request<'a>,
+    properties: Properties<'a>,
+    /// Whether step 5 could cut the signature; where not, it is as it was given.
+    split_fits: bool,
+    /// The headers of the section that would be written.
+    headers: Headers<'a>,
+}
+
+impl Judged for FilledIn<'_, '_> {
+    type Test = fn(&FilledIn<'_, '_>) -> bool;
+    type Answer = u32;
+
+    #[inline(always)]
+    fn fails(&self, test: &Self::Test) -> bool {
+        test(self)
     }
-    check_algorithms(request, &properties)?;
-    check_identity(&properties)?;
-    check_provider(request)?;
-    properties.signature = cut_signature(request)?;
-    check_sizes(&properties)?;
-    Ok(properties)
+}
+
+impl<'r, 'a> FilledIn<'r, 'a> {
+    /// The request, with so many bytes of output lent.
+    pub(crate) fn new(request: &'r Request<'a>, output: usize) -> Self {
+        let cut = cut_signature(request);
+        let properties = Properties { signature: cut.unwrap_or(request.signature), ..filled_in(request) };
+        Self { request, split_fits: cut.is_some(), headers: properties.headers(output), properties }
+    }
+
+    /// "Signature bytes given."
+    fn is_signed(&self) -> bool {
+        !self.request.signature.is_empty()
+    }
+
+    /// 20.
+    fn is_out_of_range(&self) -> bool {
+        let properties = &self.properties;
+        properties.priority > 7
+            || properties.trace > 1
+            || properties.delivery > 1
+            || properties.acknowledge > 15
+            || properties.auditing > 3
+    }
+
+    /// 25.
+    fn identity_fits(&self) -> bool {
+        match self.properties.sender_kind {
+            kind @ 0..=2 => identity_is_right(kind as u8, self.request.sender_id),
+            _ => false,
+        }
+    }
+
+    /// 26, of a signed request.
+    fn provider_fits(&self) -> bool {
+        let name = self.request.provider_name;
+        if self.request.default_provider {
+            self.request.provider_type == Some(1)
+        } else {
+            (1..=NAME_MOST).contains(&name.len()) && !name.contains(&0)
+        }
+    }
 }
 
 /// "An absent value gets": the request with every absent value filled in and the title cut, before
@@ -217,69 +320,15 @@ fn cut_title(title: &[u16]) -> &[u16] {
     &title[..end]
 }
 
-/// Step 1.
-fn check_numbers(properties: &Properties<'_>) -> Result<(), u32> {
-    let in_range = properties.priority <= 7
-        && properties.trace <= 1
-        && properties.delivery <= 1
-        && properties.acknowledge <= 15
-        && properties.auditing <= 3;
-    require(in_range, number::RANGE)?;
-    require(u16::try_from(properties.class).is_ok_and(class_is_listed), number::CLASS)
-}
-
-/// Step 2.
-fn check_algorithms(request: &Request<'_>, properties: &Properties<'_>) -> Result<(), u32> {
-    let privacy = properties.privacy_level;
-    require(privacy <= 2, number::PRIVACY)?;
-    require(!request.direct_queue || privacy == 0, number::DIRECT_PRIVACY)?;
-    let algorithm_fits = request.privacy_level.is_none() || request.encryption_algorithm.is_some();
-    require(algorithm_fits, number::ALGORITHM_ABSENT)?;
-    let hash_fits = request.signature.is_empty() || request.hash_algorithm.is_some();
-    require(hash_fits, number::HASH_ABSENT)
-}
-
-/// Step 3.
-fn check_identity(properties: &Properties<'_>) -> Result<(), u32> {
-    let fits = match properties.sender_kind {
-        kind @ 0..=2 => identity_is_right(kind as u8, properties.sender_id),
-        _ => false,
-    };
-    require(fits, number::REQUEST_IDENTITY)
-}
-
-/// Step 4.
-fn check_provider(request: &Request<'_>) -> Result<(), u32> {
-    let name = request.provider_name;
-    let fits = if request.signature.is_empty() {
-        true
-    } else if request.default_provider {
-        request.provider_type == Some(1)
-    } else {
-        (1..=NAME_MOST).contains(&name.len()) && !name.contains(&0)
-    };
-    require(fits, number::REQUEST_PROVIDER)
-}
-
-/// Step 5: "the signature is the last (split number minus name length) bytes".
-fn cut_signature<'a>(request: &Request<'a>) -> Result<&'a [u8], u32> {
+/// Step 5: "the signature is the last (split number minus name length) bytes"; nothing where there
+/// are not so many.
+fn cut_signature<'a>(request: &Request<'a>) -> Option<&'a [u8]> {
     let signature = request.signature;
     let Some(split_number) = request.split_number.filter(|_| !signature.is_empty()) else {
-        return Ok(signature);
+        return Some(signature);
     };
-    let count = split_number.checked_sub(request.provider_name_length).ok_or(number::SPLIT)? as usize;
-    require((1..=signature.len()).contains(&count), number::SPLIT)?;
-    Ok(&signature[signature.len() - count..])
-}
-
-/// Step 6 without 13.
-fn check_sizes(properties: &Properties<'_>) -> Result<(), u32> {
-    let short = |part: &[u8]| part.len() <= PART_MOST;
-    let parts_fit =
-        short(properties.encryption_key) && short(properties.signature) && short(properties.sender_cert);
-    require(parts_fit, number::PART_SIZE)?;
-    properties.layout()?;
-    Ok(())
+    let count = split_number.checked_sub(request.provider_name_length).filter(|&count| count != 0)?;
+    Some(&signature[signature.len().checked_sub(count as usize)?..])
 }
 
 impl<'a> Properties<'a> {
@@ -302,23 +351,33 @@ impl<'a> Properties<'a> {
 
     /// The length of the section that is written.
     pub fn section_length(&self) -> usize {
-        self.layout().unwrap_or(0)
+        self.headers(ENDLESS).properties.length() as usize
     }
 
-    /// The section's length; 11 or 8 where there can be none. Label and class passed before, so
-    /// that nothing else of S2 to S8 and P2 to P5 fails.
-    fn layout(&self) -> Result<usize, u32> {
-        let mut parts = Parts::default();
-        let at = if self.security_first() { self.security_shape().lay_out(&mut parts)? } else { 0 };
-        let shape = PropertiesShape {
-            at,
+    /// The headers of the section, without the texts, which are made for writing only.
+    fn headers(&self, output: usize) -> Headers<'a> {
+        let security = self.security_first().then(|| SecurityHeader {
+            input: ENDLESS,
+            flags: SecurityFlags::new(self.security_flags()),
+            identity: self.sender_id.len() as u64,
+            key: self.encryption_key.len() as u64,
+            signature: self.signature.len() as u64,
+            certificate: self.sender_cert.len() as u64,
+            provider: self.provider_length() as u64,
+            identity_bytes: self.sender_id,
+            provider_info: &[],
+        });
+        let properties = PropertiesHeader {
+            input: ENDLESS,
+            at: security.as_ref().map_or(0, SecurityHeader::length),
             label_bytes: 2 * self.label_units() as u64,
             class: self.class as u16,
             message_size: self.body.len() as u64,
             allocation: self.allocation,
             extension: self.extension.len() as u64,
+            label: &[],
         };
-        shape.lay_out(&mut parts)
+        Headers { security, properties, output }
     }
 
     /// The label's units, its null included; 0 for an empty title.
@@ -347,17 +406,6 @@ impl<'a> Properties<'a> {
             flags |= SecurityFlags::BODY_ENCRYPTED;
         }
         flags
-    }
-
-    fn security_shape(&self) -> SecurityShape {
-        SecurityShape {
-            flags: SecurityFlags::new(self.security_flags()),
-            identity: self.sender_id.len() as u64,
-            key: self.encryption_key.len() as u64,
-            signature: self.signature.len() as u64,
-            certificate: self.sender_cert.len() as u64,
-            provider: self.provider_length() as u64,
-        }
     }
 
     /// The section's values but label and provider info. The numbers passed step 1, so that the

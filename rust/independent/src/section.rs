@@ -23,6 +23,10 @@ impl Part {
     pub(crate) fn of(self, input: &[u8]) -> &[u8] {
         &input[self.start..self.start + self.length]
     }
+    /// The bytes of this part of `input`, or nothing where it does not reach so far.
+    pub(crate) fn if_there(self, input: &[u8]) -> &[u8] {
+        input.get(self.start..self.start + self.length).unwrap_or_default()
+    }
 }
 
 /// The eight parts of a section. Without a SecurityHeader the first five start at 0 with length 0.

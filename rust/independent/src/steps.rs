@@ -1,67 +1,175 @@
-//! The steps that reading, writing and sending share: S2 to S8, S10, S11, P2 to P5 and P7. Each
-//! fails with the refusal's number; the caller knows the place.
+//! The steps of a section, read or to be written: S1 to S11, P1 to P7, 28 and 13.
 
 use crate::bytes::{only_last_is_zero, padded};
 use crate::lists::class_is_listed;
+use crate::order::{first_failure, Judged, Step};
 use crate::section::{Part, Parts, SecurityFlags, LABEL_MOST, LIMIT, PROPERTIES_FIXED, SECURITY_FIXED};
 use crate::{number, Refusal};
 
 /// The most bytes of a key, a signature or a certificate.
-pub(crate) const PART_MOST: usize = 65_535;
+const PART_MOST: u64 = 65_535;
 /// The most bytes of a label.
 pub(crate) const LABEL_BYTES_MOST: usize = 2 * LABEL_MOST as usize;
+/// The bytes of an input or an output that no step finds short: there is none.
+pub(crate) const ENDLESS: usize = usize::MAX;
 
-/// Fails with `number` unless `holds`.
-pub(crate) fn require(holds: bool, number: u32) -> Result<(), u32> {
-    if holds {
-        Ok(())
-    } else {
-        Err(number)
+/// A step of a section; it answers with the refusal's number.
+pub(crate) type SectionStep = Step<Test, u32>;
+
+/// The header that a step looks at. Its offset is the refusal's place.
+#[derive(Clone, Copy)]
+pub(crate) enum Test {
+    /// The SecurityHeader; the step passes where there is none.
+    Security(fn(&SecurityHeader<'_>) -> bool),
+    /// The MessagePropertiesHeader.
+    Properties(fn(&PropertiesHeader<'_>) -> bool),
+    /// 13: the lent output is shorter than the section. Its place is 0.
+    Output,
+}
+
+const fn security(name: &'static str, number: u32, fails: fn(&SecurityHeader<'_>) -> bool) -> SectionStep {
+    Step { name, answer: number, test: Test::Security(fails) }
+}
+
+const fn properties(
+    name: &'static str,
+    number: u32,
+    fails: fn(&PropertiesHeader<'_>) -> bool,
+) -> SectionStep {
+    Step { name, answer: number, test: Test::Properties(fails) }
+}
+
+const S1: SectionStep = security("S1", number::INPUT_SHORT, |h| h.input < SECURITY_FIXED);
+const S2: SectionStep = security("S2", number::SENDER_KIND, |h| h.flags.sender_kind() > 2);
+const S3: SectionStep =
+    security("S3", number::AUTHENTICATED, |h| h.flags.authenticated() || h.flags.signature_kind() != 0);
+const S4: SectionStep = security("S4", number::EMPTY, |h| h.is_empty() || !h.flags.data_present());
+const S5: SectionStep = security("S5", number::CERTIFICATE, |h| h.certificate > PART_MOST);
+const S6: SectionStep =
+    security("S6", number::IDENTITY, |h| !identity_size_fits(h.flags.sender_kind(), h.identity));
+const S7: SectionStep = security("S7", number::PROVIDER, |h| !h.provider_size_fits());
+const S8: SectionStep = security("S8", number::LIMIT, |h| h.length() > LIMIT);
+const S9: SectionStep = security("S9", number::INPUT_SHORT, |h| h.length() > h.input as u64);
+const S10: SectionStep =
+    security("S10", number::IDENTITY, |h| identity_begins_wrong(h.flags.sender_kind(), h.identity_bytes));
+const S11: SectionStep = security("S11", number::PROVIDER, |h| {
+    h.provider_info.get(4..).is_some_and(|name| !only_last_is_zero(name))
+});
+
+const P1: SectionStep =
+    properties("P1", number::INPUT_SHORT, |h| (h.input as u64) < h.at + PROPERTIES_FIXED as u64);
+const P2: SectionStep = properties("P2", number::LABEL_LENGTH, |h| {
+    h.label_bytes > LABEL_BYTES_MOST as u64 || !h.label_bytes.is_multiple_of(2)
+});
+const P3: SectionStep = properties("P3", number::CLASS, |h| !class_is_listed(h.class));
+const P4: SectionStep = properties("P4", number::ALLOCATION, |h| h.allocation_is_wrong());
+const P5: SectionStep = properties("P5", number::LIMIT, |h| h.length() > LIMIT);
+const P6: SectionStep = properties("P6", number::INPUT_SHORT, |h| h.length() > h.input as u64);
+const P7: SectionStep =
+    properties("P7", number::LABEL, |h| !h.label.is_empty() && !only_last_is_zero(h.label));
+
+const PART_SIZE: SectionStep = security("28", number::PART_SIZE, |h| h.part_is_long());
+const OUTPUT: SectionStep = Step { name: "13", answer: number::OUTPUT_SHORT, test: Test::Output };
+
+/// The steps of reading; then 13, which is the support copy's.
+pub(crate) const READING: [SectionStep; 19] =
+    [S1, S2, S3, S4, S5, S6, S7, S8, S9, S10, S11, P1, P2, P3, P4, P5, P6, P7, OUTPUT];
+
+/// The steps of the section writer: "28, then the same steps without S1, S9, P1, P6, then 13". S5
+/// is not among them: no certificate that fails it passes 28.
+pub(crate) const WRITING: [SectionStep; 15] =
+    [PART_SIZE, S2, S3, S4, S6, S7, S8, S10, S11, P2, P3, P4, P5, P7, OUTPUT];
+
+/// The headers of a section.
+pub(crate) struct Headers<'a> {
+    pub security: Option<SecurityHeader<'a>>,
+    pub properties: PropertiesHeader<'a>,
+    /// The bytes of the lent output.
+    pub output: usize,
+}
+
+impl Judged for Headers<'_> {
+    type Test = Test;
+    type Answer = u32;
+
+    #[inline(always)]
+    fn fails(&self, test: &Test) -> bool {
+        match test {
+            Test::Security(fails) => self.security.as_ref().is_some_and(fails),
+            Test::Properties(fails) => fails(&self.properties),
+            Test::Output => self.properties.length() > self.output as u64,
+        }
     }
 }
 
-/// The first `length` bytes of a lent output; 13 where it has fewer.
-pub(crate) fn room(out: &mut [u8], length: usize) -> Result<&mut [u8], Refusal> {
-    out.get_mut(..length).ok_or(Refusal::at_start(number::OUTPUT_SHORT))
+impl Headers<'_> {
+    /// The refusal of the first step of `order` that fails.
+    #[inline(always)]
+    pub(crate) fn judge(&self, order: &[SectionStep]) -> Result<(), Refusal> {
+        let Some(step) = first_failure(order, self) else { return Ok(()) };
+        let place = match step.test {
+            Test::Security(_) | Test::Output => 0,
+            Test::Properties(_) => self.properties.at as usize,
+        };
+        Err(Refusal { number: step.answer, place })
+    }
+
+    /// Start and length of each part, of a section that passed its steps.
+    pub(crate) fn parts(&self) -> Parts {
+        let mut parts = Parts::default();
+        if let Some(security) = &self.security {
+            security.lay_out(&mut parts);
+        }
+        self.properties.lay_out(&mut parts);
+        parts
+    }
 }
 
-/// The flags and sizes of a SecurityHeader, read or to be written. Sizes are 64 bits wide, so that
-/// neither a part's length nor a sum of them wraps.
-pub(crate) struct SecurityShape {
+/// What is looked at of a SecurityHeader. Sizes are 64 bits wide, so that neither a part's length
+/// nor a sum of them wraps.
+pub(crate) struct SecurityHeader<'a> {
+    /// The bytes of the input.
+    pub input: usize,
     pub flags: SecurityFlags,
     pub identity: u64,
     pub key: u64,
     pub signature: u64,
     pub certificate: u64,
     pub provider: u64,
+    /// The identity, or nothing where the input ends before it does.
+    pub identity_bytes: &'a [u8],
+    /// The provider info, or nothing where the input ends before it does.
+    pub provider_info: &'a [u8],
 }
 
-impl SecurityShape {
-    /// Steps S2 to S8. Fills in the five security parts and gives the header's length.
-    pub(crate) fn lay_out(&self, parts: &mut Parts) -> Result<usize, u32> {
-        let flags = self.flags;
-        require(flags.sender_kind() <= 2, number::SENDER_KIND)?;
-        require(!flags.authenticated() && flags.signature_kind() == 0, number::AUTHENTICATED)?;
-        require(!self.is_empty() && flags.data_present(), number::EMPTY)?;
-        require(self.certificate <= PART_MOST as u64, number::CERTIFICATE)?;
-        require(identity_size_fits(flags.sender_kind(), self.identity), number::IDENTITY)?;
-        require(self.provider_size_fits(), number::PROVIDER)?;
-        let key = SECURITY_FIXED as u64 + padded(self.identity);
-        let signature = key + padded(self.key);
-        let certificate = signature + padded(self.signature);
-        let provider = certificate + padded(self.certificate);
-        let length = provider + padded(self.provider);
-        require(length <= LIMIT, number::LIMIT)?;
-        parts.identity = part(SECURITY_FIXED as u64, self.identity);
-        parts.key = part(key, self.key);
-        parts.signature = part(signature, self.signature);
-        parts.certificate = part(certificate, self.certificate);
-        parts.provider = part(provider, self.provider);
-        Ok(length as usize)
+impl SecurityHeader<'_> {
+    fn sizes(&self) -> [u64; 5] {
+        [self.identity, self.key, self.signature, self.certificate, self.provider]
     }
 
+    /// The header's length.
+    pub(crate) fn length(&self) -> u64 {
+        SECURITY_FIXED as u64 + self.sizes().into_iter().map(padded).sum::<u64>()
+    }
+
+    /// Fills in the five security parts.
+    pub(crate) fn lay_out(&self, parts: &mut Parts) {
+        let mut start = SECURITY_FIXED as u64;
+        let mut next = |size| {
+            let part = part(start, size);
+            start += padded(size);
+            part
+        };
+        parts.identity = next(self.identity);
+        parts.key = next(self.key);
+        parts.signature = next(self.signature);
+        parts.certificate = next(self.certificate);
+        parts.provider = next(self.provider);
+    }
+
+    /// S4.
     fn is_empty(&self) -> bool {
-        self.identity | self.key | self.signature | self.certificate | self.provider == 0
+        self.sizes() == [0; 5]
     }
 
     /// S7.
@@ -75,9 +183,14 @@ impl SecurityShape {
             self.provider == 0 || even && self.provider >= 6
         }
     }
+
+    /// 28.
+    pub(crate) fn part_is_long(&self) -> bool {
+        [self.key, self.signature, self.certificate].iter().any(|&size| size > PART_MOST)
+    }
 }
 
-/// A part that lies below the limit, so that both casts keep their value.
+/// A part. Sizes that are read have 32 bits and the others are lengths in memory: no place wraps.
 fn part(start: u64, length: u64) -> Part {
     Part { start: start as usize, length: length as usize }
 }
@@ -92,52 +205,50 @@ fn identity_size_fits(kind: u8, size: u64) -> bool {
 }
 
 /// S10, for an identity whose size passed S6.
-pub(crate) fn identity_begins_right(kind: u8, identity: &[u8]) -> bool {
-    kind != 1 || identity[0] == 1 && usize::from(identity[1]) == (identity.len() - 8) / 4
+fn identity_begins_wrong(kind: u8, identity: &[u8]) -> bool {
+    match *identity {
+        [first, second, ..] if kind == 1 => first != 1 || identity.len() != 8 + 4 * usize::from(second),
+        _ => false,
+    }
 }
 
 /// S6 and S10 together, for a sender kind of at most 2.
 pub(crate) fn identity_is_right(kind: u8, identity: &[u8]) -> bool {
-    identity_size_fits(kind, identity.len() as u64) && identity_begins_right(kind, identity)
+    identity_size_fits(kind, identity.len() as u64) && !identity_begins_wrong(kind, identity)
 }
 
-/// S11, for provider info whose size passed S7.
-pub(crate) fn provider_is_right(info: &[u8]) -> bool {
-    info.is_empty() || only_last_is_zero(&info[4..])
-}
-
-/// What steps P2 to P5 look at, read or to be written.
-pub(crate) struct PropertiesShape {
-    /// Where the header begins, at most the limit.
-    pub at: usize,
+/// What is looked at of a MessagePropertiesHeader.
+pub(crate) struct PropertiesHeader<'a> {
+    /// The bytes of the input.
+    pub input: usize,
+    /// Where the header begins.
+    pub at: u64,
     pub label_bytes: u64,
     pub class: u16,
     pub message_size: u64,
     pub allocation: u64,
     pub extension: u64,
+    /// The label, or nothing where the input ends before it does.
+    pub label: &'a [u8],
 }
 
-impl PropertiesShape {
-    /// Steps P2 to P5. Fills in the last three parts and gives the section's length.
-    pub(crate) fn lay_out(&self, parts: &mut Parts) -> Result<usize, u32> {
-        let label_fits = self.label_bytes <= LABEL_BYTES_MOST as u64 && self.label_bytes.is_multiple_of(2);
-        require(label_fits, number::LABEL_LENGTH)?;
-        require(class_is_listed(self.class), number::CLASS)?;
-        let allocation_fits = self.message_size <= self.allocation && self.allocation <= LIMIT;
-        require(allocation_fits, number::ALLOCATION)?;
-        let label = (self.at + PROPERTIES_FIXED) as u64;
+impl PropertiesHeader<'_> {
+    /// The section's length.
+    pub(crate) fn length(&self) -> u64 {
+        padded(self.at + PROPERTIES_FIXED as u64 + self.label_bytes + self.extension + self.message_size)
+    }
+
+    /// Fills in the last three parts.
+    pub(crate) fn lay_out(&self, parts: &mut Parts) {
+        let label = self.at + PROPERTIES_FIXED as u64;
         let extension = label + self.label_bytes;
-        let body = extension + self.extension;
-        let length = padded(body + self.message_size);
-        require(length <= LIMIT, number::LIMIT)?;
         parts.label = part(label, self.label_bytes);
         parts.extension = part(extension, self.extension);
-        parts.body = part(body, self.message_size);
-        Ok(length as usize)
+        parts.body = part(extension + self.extension, self.message_size);
     }
-}
 
-/// P7.
-pub(crate) fn label_is_right(label: &[u8]) -> bool {
-    label.is_empty() || only_last_is_zero(label)
+    /// P4.
+    pub(crate) fn allocation_is_wrong(&self) -> bool {
+        self.allocation < self.message_size || self.allocation > LIMIT
+    }
 }

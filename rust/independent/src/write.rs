@@ -1,10 +1,9 @@
 //! The section writer: "takes the full reading's values and parts, with the sizes given by the
 //! parts".
 
-use crate::section::{Parts, Section, SecurityFlags, PROPERTIES_FIXED, SECURITY_FIXED};
-use crate::steps::{identity_begins_right, label_is_right, provider_is_right, require, room, PART_MOST};
-use crate::steps::{PropertiesShape, SecurityShape};
-use crate::{number, Refusal};
+use crate::section::{Section, SecurityFlags, PROPERTIES_FIXED, SECURITY_FIXED};
+use crate::steps::{Headers, PropertiesHeader, SectionStep, SecurityHeader, ENDLESS, WRITING};
+use crate::Refusal;
 
 /// The values and parts of a section to be written. Sizes come from the parts; "AllocationBodySize
 /// is a value". Without a SecurityHeader its flags and five parts are ignored.
@@ -82,12 +81,20 @@ impl<'a> SectionValues<'a> {
 /// Writes the section to the start of `out` and gives its length. "It applies 28, then the same
 /// steps without S1, S9, P1, P6, then 13"; a refusal writes nothing.
 pub fn write_section(values: &SectionValues<'_>, out: &mut [u8]) -> Result<usize, Refusal> {
-    let mut at = 0;
-    if values.security_first {
-        at = check_security(values).map_err(Refusal::at_start)?;
-    }
-    let length = check_properties(values, at).map_err(|number| Refusal { number, place: at })?;
-    let (security, properties) = room(out, length)?.split_at_mut(at);
+    write_by(&WRITING, values, out)
+}
+
+/// [`write_section`] by the steps of `order`.
+#[inline(always)]
+pub(crate) fn write_by(
+    order: &[SectionStep],
+    values: &SectionValues<'_>,
+    out: &mut [u8],
+) -> Result<usize, Refusal> {
+    let headers = headers(values, out.len());
+    headers.judge(order)?;
+    let length = headers.properties.length() as usize;
+    let (security, properties) = out[..length].split_at_mut(headers.properties.at as usize);
     if values.security_first {
         put_security(values, security);
     }
@@ -95,39 +102,30 @@ pub fn write_section(values: &SectionValues<'_>, out: &mut [u8]) -> Result<usize
     Ok(length)
 }
 
-/// 28, then S2 to S8, S10 and S11. Gives the header's length.
-fn check_security(values: &SectionValues<'_>) -> Result<usize, u32> {
-    let short = |part: &[u8]| part.len() <= PART_MOST;
-    let parts_fit = short(values.encryption_key) && short(values.signature) && short(values.sender_cert);
-    require(parts_fit, number::PART_SIZE)?;
-    let flags = SecurityFlags::new(values.security_flags);
-    let shape = SecurityShape {
-        flags,
+/// What the steps look at, with so many bytes of output lent.
+pub(crate) fn headers<'a>(values: &SectionValues<'a>, output: usize) -> Headers<'a> {
+    let security = values.security_first.then(|| SecurityHeader {
+        input: ENDLESS,
+        flags: SecurityFlags::new(values.security_flags),
         identity: values.sender_id.len() as u64,
         key: values.encryption_key.len() as u64,
         signature: values.signature.len() as u64,
         certificate: values.sender_cert.len() as u64,
         provider: values.provider_info.len() as u64,
-    };
-    let length = shape.lay_out(&mut Parts::default())?;
-    require(identity_begins_right(flags.sender_kind(), values.sender_id), number::IDENTITY)?;
-    require(provider_is_right(values.provider_info), number::PROVIDER)?;
-    Ok(length)
-}
-
-/// P2 to P5 and P7, for a header at `at`. Gives the section's length.
-fn check_properties(values: &SectionValues<'_>, at: usize) -> Result<usize, u32> {
-    let shape = PropertiesShape {
-        at,
+        identity_bytes: values.sender_id,
+        provider_info: values.provider_info,
+    });
+    let properties = PropertiesHeader {
+        input: ENDLESS,
+        at: security.as_ref().map_or(0, SecurityHeader::length),
         label_bytes: values.label.len() as u64,
         class: values.message_class,
         message_size: values.body.len() as u64,
         allocation: values.allocation_body_size,
         extension: values.extension.len() as u64,
+        label: values.label,
     };
-    let length = shape.lay_out(&mut Parts::default())?;
-    require(label_is_right(values.label), number::LABEL)?;
-    Ok(length)
+    Headers { security, properties, output }
 }
 
 /// Writes the checked SecurityHeader to `out`, which has its length. Every size passed its step,

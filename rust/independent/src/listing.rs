@@ -17,7 +17,7 @@ pub const SECTION_MOST: usize = 32_768;
 pub const HEADER: &str = "no answer class label ext body total\n";
 
 /// The most bytes of a record.
-const RECORD_MOST: usize = HEAD + SECTION_MOST;
+pub const RECORD_MOST: usize = HEAD + SECTION_MOST;
 /// The bytes that are read or written at a time. Several records, so that few bytes are moved.
 const BUFFER: usize = 8 * RECORD_MOST;
 
@@ -55,8 +55,8 @@ pub enum Next {
     },
 }
 
-/// The first record of `rest`, all the bytes that are left of a day file. [`SECTION_MOST`] +
-/// [`HEAD`] of them are enough.
+/// The first record of `rest`, all the bytes that are left of a day file. [`RECORD_MOST`] of them are
+/// enough.
 pub fn next_record(rest: &[u8]) -> Next {
     next_by(&RECORD, rest)
 }

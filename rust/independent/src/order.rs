@@ -36,6 +36,17 @@ pub(crate) fn first_failure<'o, J: Judged + ?Sized>(
     order.iter().find(|step| judged.fails(&step.test))
 }
 
+/// The names of a list's steps.
+pub(crate) const fn names<T, A, const N: usize>(order: &[Step<T, A>; N]) -> [&'static str; N] {
+    let mut names = [""; N];
+    let mut at = 0;
+    while at < N {
+        names[at] = order[at].name;
+        at += 1;
+    }
+    names
+}
+
 /// Two steps of a list that follow each other.
 #[derive(Debug, Clone, Copy, PartialEq, Eq)]
 pub struct Neighbours {

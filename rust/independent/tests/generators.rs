@@ -3,7 +3,7 @@
 use std::collections::BTreeMap;
 
 use independent::generate::{case, day, image, image_values, request, section_values, Random};
-use independent::listing::{next_record, Next};
+use independent::listing::{ended_by, next_record, Next};
 use independent::queue::{read_image, write_image};
 use independent::request::send;
 use independent::{number, read, write_section, Refusal};
@@ -90,26 +90,23 @@ fn send_requests() {
 #[test]
 fn day_files() {
     let mut r = Random::new(6);
-    let (mut ends, mut stops, mut accepted, mut refused) = (0, 0, 0, 0);
+    let mut ended: BTreeMap<_, usize> = BTreeMap::new();
+    let (mut accepted, mut refused) = (0, 0);
     for _ in 0..10_000 {
         let file = day(&mut r);
         let mut rest = &file[..];
-        loop {
-            match next_record(rest) {
-                Next::End => break ends += 1,
-                Next::Stop => break stops += 1,
-                Next::Record { size, answer } => {
-                    rest = &rest[size..];
-                    match answer {
-                        Ok(_) => accepted += 1,
-                        Err(_) => refused += 1,
-                    }
-                }
+        while let Next::Record { size, answer } = next_record(rest) {
+            rest = &rest[size..];
+            match answer {
+                Ok(_) => accepted += 1,
+                Err(_) => refused += 1,
             }
         }
+        *ended.entry(ended_by(rest).expect("no record follows")).or_default() += 1;
     }
-    println!("day files: {ends} end, {stops} stop; records: {accepted} accepted, {refused} refused");
-    assert!(ends > 3_000 && stops > 2_000 && accepted > 5_000 && refused > 5_000);
+    println!("day files end by {ended:?}; records: {accepted} accepted, {refused} refused");
+    assert!(ended["end"] > 1_000 && accepted > 5_000 && refused > 5_000);
+    assert!(ended.len() == 7 && ended.values().all(|&files| files > 500), "{ended:?}");
 }
 
 #[test]

@@ -1,6 +1,6 @@
-//! Cases made at random for comparing two libraries: legal ones, ones that break a chosen step or
-//! stand at its boundary, and damaged ones. The same seed gives the same cases. Cases of more than
-//! about 64 KB are rare, so that many cases take little time.
+//! Cases made at random for comparing two libraries: legal ones, ones that break chosen steps, two
+//! neighbouring ones among them, or stand at their boundary, and damaged ones. The same seed gives
+//! the same cases. Cases of more than about 64 KB are rare, so that many cases take little time.
 
 mod day;
 mod lists;
@@ -10,7 +10,7 @@ mod request;
 mod section;
 mod values;
 
-pub use day::day;
+pub use day::{day, long_day};
 pub use lists::CLASSES;
 pub use queue::{image, image_values, ImageValues, PAIRS};
 pub use random::Random;

@@ -33,7 +33,7 @@ pub struct ImageValues {
 /// Values to be written as an image: legal ones, or ones with a step broken or at its boundary.
 pub fn image_values(r: &mut Random) -> ImageValues {
     let mut values = drawn(r);
-    values.room = r.room(4 + values.fixed.len() + values.text.len());
+    values.room = r.room(4 + values.fixed.len() + values.text.len(), &[]);
     values
 }
 

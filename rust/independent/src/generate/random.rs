@@ -1,6 +1,10 @@
 //! The random numbers and the small draws that all generators share.
 
+use std::borrow::Cow;
+use std::sync::OnceLock;
+
 use super::lists::{CIPHERS, CLASSES, HASHES, NO_CLASSES, PRIVACY};
+use crate::LIMIT;
 
 /// A small random number generator (splitmix64).
 #[derive(Debug, Clone)]
@@ -117,15 +121,41 @@ impl Random {
         let count = self.pick(&[5, CIPHERS.len()]);
         self.pick(&CIPHERS[..count])
     }
-    /// A number of bytes to lend for an output of `length`: most often enough.
-    pub(super) fn room(&mut self, length: usize) -> usize {
+    /// The steps that a case breaks: none, one to three of `list`, or two that follow each other in
+    /// it. The `rare` ones, which take long, are seldom broken but beside a neighbour.
+    pub(super) fn steps<'l>(&mut self, list: &[&'l str], rare: &[&str]) -> Vec<&'l str> {
+        let count = match self.below(24) {
+            0..=9 => 0,
+            10..=17 => 1,
+            18 | 19 => 2,
+            20 | 21 => 3,
+            _ => {
+                let first = self.below(list.len() - 1);
+                return list[first..first + 2].to_vec();
+            }
+        };
+        let mut steps: Vec<_> = (0..count).map(|_| self.pick(list)).collect();
+        steps.retain(|step| !rare.contains(step) || self.once_in(20));
+        steps
+    }
+    /// A number of bytes to lend for an output of `length`: most often enough, but short where 13 is
+    /// among the steps that are broken.
+    pub(super) fn room(&mut self, length: usize, broken: &[&str]) -> usize {
         match self.below(16) {
+            _ if broken.contains(&"13") => self.below(length.max(1)),
             0 => length.saturating_sub(1 + self.below(4)),
             1 => self.below(length + 1),
             2..=8 => length,
             _ => length + self.below(9),
         }
     }
+}
+
+/// So many zero bytes, few more than the limit at most. All share one buffer, so that a part which
+/// is that long takes no time.
+pub(super) fn zero_bytes(length: usize) -> Cow<'static, [u8]> {
+    static ZERO: OnceLock<Vec<u8>> = OnceLock::new();
+    Cow::Borrowed(&ZERO.get_or_init(|| vec![0; LIMIT as usize + 64])[..length])
 }
 
 /// Sets the first two bytes of an identity to what S10 wants of kind 1.

@@ -1,9 +1,12 @@
 //! Send requests: legal ones, and ones with a step broken or at its boundary.
 
+use std::borrow::Cow;
+
 use super::lists::CLASSES;
-use super::random::mark_identity;
+use super::random::{mark_identity, zero_bytes};
 use super::Random;
-use crate::request::{defaulted, Request};
+use crate::order::names;
+use crate::request::{defaulted, Request, SENDING};
 use crate::LIMIT;
 
 /// A [`Request`] that owns its parts, and the bytes to lend for the output.
@@ -54,7 +57,7 @@ pub struct OwnedRequest {
     /// The provider name's units.
     pub provider_name: Vec<u16>,
     /// The extension data.
-    pub extension: Vec<u8>,
+    pub extension: Cow<'static, [u8]>,
     /// The body and its allocation.
     pub body: Option<(Vec<u8>, u64)>,
     /// The message belongs to a transaction.
@@ -69,21 +72,22 @@ pub struct OwnedRequest {
     pub room: usize,
 }
 
-/// A send request: legal, or with one to three steps broken or at their boundary; long parts and
-/// sizes next to the limit now and then.
+/// A request's steps.
+const STEPS: [&str; 13] = names(&SENDING);
+
+/// A send request: legal, or with one to three steps or two neighbouring ones broken or at their
+/// boundary; a title that is cut now and then.
 pub fn request(r: &mut Random) -> OwnedRequest {
     let mut request = OwnedRequest::legal(r);
-    for _ in 0..r.pick(&[0, 0, 0, 0, 1, 1, 1, 1, 1, 2, 3]) {
-        request.break_one(r);
+    let steps = r.steps(&STEPS, &["28", "8"]);
+    for step in &steps {
+        request.break_step(r, step);
     }
-    if r.once_in(80) {
-        request.lengthen_part(r);
-    }
-    if r.once_in(1_000) {
-        request.lengthen_section(r);
+    if r.once_in(15) {
+        request.break_title(r);
     }
     let length = defaulted(&request.as_request()).map_or(0, |properties| properties.section_length());
-    request.room = r.room(length);
+    request.room = r.room(length, &steps);
     request
 }
 
@@ -207,7 +211,7 @@ impl OwnedRequest {
     fn draw_content(&mut self, r: &mut Random) {
         let units = r.label_units();
         self.title = units_of(r, units);
-        self.extension = small_part(r);
+        self.extension = small_part(r).into();
         let body = small_part(r);
         let allocation = match r.below(8) {
             0..=2 => (body.len() + r.below(20)) as u64,
@@ -217,34 +221,38 @@ impl OwnedRequest {
         self.body = (!r.once_in(4)).then_some((body, allocation));
     }
 
-    /// Breaks, or takes to its boundary, what one step looks at.
-    fn break_one(&mut self, r: &mut Random) {
-        match r.below(12) {
-            0 => self.break_range(r),
-            1 => {
+    /// Breaks, or takes to its boundary, what one of the [`STEPS`] looks at.
+    fn break_step(&mut self, r: &mut Random, step: &str) {
+        match step {
+            "20" => self.break_range(r),
+            "10" => {
                 let class = u32::from(r.odd_class());
                 self.class = Some(if r.once_in(6) { class | 0x1_0000 } else { class });
             }
-            2 => self.privacy_level = Some(r.pick(&[0, 1, 2, 3, 4, 5, 255, 256, 258, 65_537, 0xFFFFFFFF])),
-            3 => {
+            "21" => {
+                self.privacy_level = Some(r.pick(&[0, 1, 2, 3, 4, 5, 255, 256, 258, 65_537, 0xFFFFFFFF]));
+            }
+            "22" => {
                 self.direct_queue = true;
                 self.privacy_level = r.pick(&[None, Some(0), Some(1), Some(1), Some(2), Some(3)]);
                 self.encryption_algorithm = r.pick(&[None, Some(0x6610), Some(0x6801)]);
             }
-            4 => {
+            "23" => {
                 self.encryption_algorithm = None;
                 self.privacy_level = r.pick(&[None, Some(0), Some(1), Some(2)]);
             }
-            5 => {
+            "24" => {
                 self.hash_algorithm = None;
                 let length = r.below(3);
                 self.signature = r.bytes(length);
             }
-            6 | 7 => self.break_identity(r),
-            8 => self.break_provider(r),
-            9 => self.break_split(r),
-            10 => self.break_allocation(r),
-            _ => self.break_title(r),
+            "25" => self.break_identity(r),
+            "26" => self.break_provider(r),
+            "27" => self.break_split(r),
+            "28" => self.lengthen_part(r),
+            "11" => self.break_allocation(r),
+            "8" => self.lengthen_section(r),
+            _ => {} // 13 is about the output that is lent
         }
     }
 
@@ -339,13 +347,15 @@ impl OwnedRequest {
         }
     }
 
-    /// Makes the request a signed one that steps 2 and 4 pass.
+    /// Makes a request that is not signed one that steps 2, 4 and 5 pass.
     fn sign(&mut self, r: &mut Random) {
-        let length = 1 + r.below(12);
-        self.signature = r.bytes(length);
-        self.hash_algorithm = Some(r.hash());
-        self.draw_provider(r);
-        self.split_number = None;
+        if self.signature.is_empty() {
+            let length = 1 + r.below(12);
+            self.signature = r.bytes(length);
+            self.hash_algorithm = Some(r.hash());
+            self.draw_provider(r);
+            self.split_number = None;
+        }
     }
 
     /// 28 and its boundary, in a key, a certificate or a signature, cut or not.
@@ -367,14 +377,18 @@ impl OwnedRequest {
         }
     }
 
-    /// 8 and its boundary. The long part is zero all through, which is quick.
+    /// 8, by an extension that is zero all through; or its boundary, by an extension or a body.
     fn lengthen_section(&mut self, r: &mut Random) {
-        self.extension = vec![];
+        if !r.once_in(12) {
+            self.extension = zero_bytes(LIMIT as usize);
+            return;
+        }
+        self.extension = Cow::default();
         self.body = None;
         let length = defaulted(&self.as_request()).map_or(56, |properties| properties.section_length());
         let end = LIMIT as usize - length - 6 + r.pick(&[0, 2, 3, 4, 5, 6, 7, 7, 8, 8, 9, 10, 11]);
         if r.once_in(2) {
-            self.extension = vec![0; end];
+            self.extension = zero_bytes(end);
         } else {
             self.body = Some((vec![0; end], end as u64));
         }

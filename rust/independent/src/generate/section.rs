@@ -3,6 +3,8 @@
 
 use super::lists::CLASSES;
 use super::Random;
+use crate::order::names;
+use crate::steps::READING;
 use crate::{LIMIT, PROPERTIES_FIXED, SECURITY_FIXED};
 
 /// An input and whether a SecurityHeader stands first in it.
@@ -62,6 +64,9 @@ pub struct Draft {
     pub room: usize,
 }
 
+/// The steps of reading.
+const STEPS: [&str; 19] = names(&READING);
+
 impl Draft {
     /// A draft that every step passes, with small parts.
     pub fn valid(r: &mut Random) -> Self {
@@ -115,32 +120,31 @@ impl Draft {
         self.extension = r.small() as u32;
     }
 
-    /// Breaks, or takes to its boundary, what one step looks at. `step` is 1 to 11 for S1 to S11,
-    /// 12 to 18 for P1 to P7.
-    pub fn break_step(&mut self, r: &mut Random, step: usize) {
-        if step <= 11 && !r.once_in(16) {
+    /// Breaks, or takes to its boundary, what one of the [`STEPS`] looks at.
+    fn break_step(&mut self, r: &mut Random, step: &str) {
+        if step.starts_with('S') && !r.once_in(16) {
             self.security_first = true;
         }
         match step {
-            1 => self.room = r.below(SECURITY_FIXED + 2),
-            2 => self.flags = self.flags & 0xFFF0 | r.below(16) as u16,
-            3 => self.flags |= r.pick(&[0x10, 0x100, 0x200, 0x400, 0x800, 0xF00, 0xF10]),
-            4 => self.break_presence(r),
-            5 => self.break_certificate(r),
-            6 => self.break_identity_size(r),
-            7 => self.break_provider_size(r),
-            8 => self.break_header_limit(r),
-            9 => self.room = near(r, self.security_length()),
-            10 => self.break_identity(r),
-            11 => self.break_provider(r),
-            12 => self.room = self.properties_at() + r.pick(&[0, 1, 28, 52, 54, 55, 56, 57]),
-            13 => self.label = r.pick(&[249, 250, 251, 252, 255]),
-            14 => self.class = r.odd_class(),
-            15 => self.break_allocation(r),
-            16 => self.break_section_limit(r),
-            17 => self.room = near(r, self.length()),
-            18 => self.break_label(r),
-            _ => {}
+            "S1" => self.room = r.below(SECURITY_FIXED + 2),
+            "S2" => self.flags = self.flags & 0xFFF0 | r.below(16) as u16,
+            "S3" => self.flags |= r.pick(&[0x10, 0x100, 0x200, 0x400, 0x800, 0xF00, 0xF10]),
+            "S4" => self.break_presence(r),
+            "S5" => self.break_certificate(r),
+            "S6" => self.break_identity_size(r),
+            "S7" => self.break_provider_size(r),
+            "S8" => self.break_header_limit(r),
+            "S9" => self.room = near(r, self.security_length()),
+            "S10" => self.break_identity(r),
+            "S11" => self.break_provider(r),
+            "P1" => self.room = self.properties_at() + r.pick(&[0, 1, 28, 52, 54, 55, 56, 57]),
+            "P2" => self.label = r.pick(&[249, 250, 251, 252, 255]),
+            "P3" => self.class = r.odd_class(),
+            "P4" => self.break_allocation(r),
+            "P5" => self.break_section_limit(r),
+            "P6" => self.room = near(r, self.length()),
+            "P7" => self.break_label(r),
+            _ => {} // 13 is about the output that is lent
         }
     }
 
@@ -401,13 +405,11 @@ impl Bytes {
     }
 }
 
-/// One case: a valid section, or one with one to three steps broken, then perhaps cut, flipped or
-/// extended.
+/// One case: a valid section, or one with one to three steps or two neighbouring ones broken, then
+/// perhaps cut, flipped or extended.
 pub fn case(r: &mut Random) -> Case {
     let mut draft = Draft::valid(r);
-    let broken = r.pick(&[0, 0, 0, 0, 1, 1, 1, 1, 2, 3]);
-    for _ in 0..broken {
-        let step = 1 + r.below(18);
+    for step in r.steps(&STEPS, &[]) {
         draft.break_step(r, step);
     }
     // Long parts are laid out only now and then.

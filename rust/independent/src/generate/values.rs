@@ -1,8 +1,12 @@
 //! Values and parts for the section writer.
 
+use std::borrow::Cow;
+
 use super::lists::CLASSES;
-use super::random::mark_identity;
+use super::random::{mark_identity, zero_bytes};
 use super::Random;
+use crate::order::names;
+use crate::steps::WRITING;
 use crate::{SectionValues, LIMIT, PROPERTIES_FIXED, SECURITY_FIXED};
 
 /// [`SectionValues`] that own their parts, and the bytes to lend for the output.
@@ -21,7 +25,7 @@ pub struct OwnedValues {
     /// The sender's certificate.
     pub sender_cert: Vec<u8>,
     /// The provider info, type and name together.
-    pub provider_info: Vec<u8>,
+    pub provider_info: Cow<'static, [u8]>,
     /// The properties Flags.
     pub flags: u8,
     /// MessageClass.
@@ -43,27 +47,27 @@ pub struct OwnedValues {
     /// The label, as bytes.
     pub label: Vec<u8>,
     /// The extension data.
-    pub extension: Vec<u8>,
+    pub extension: Cow<'static, [u8]>,
     /// The body.
     pub body: Vec<u8>,
     /// The bytes to lend for the output.
     pub room: usize,
 }
 
-/// Values for the section writer: legal ones, or ones with one to three steps broken or at their
-/// boundary; long parts and sizes next to the limit now and then.
+/// The section writer's steps.
+const STEPS: [&str; 15] = names(&WRITING);
+
+/// Values for the section writer: legal ones, or ones with one to three steps or two neighbouring
+/// ones broken or at their boundary.
 pub fn section_values(r: &mut Random) -> OwnedValues {
     let mut values = OwnedValues::legal(r);
-    for _ in 0..r.pick(&[0, 0, 0, 0, 1, 1, 1, 1, 2, 3]) {
-        values.break_one(r);
+    let steps = r.steps(&STEPS, &["28", "S8", "P5"]);
+    for step in &steps {
+        values.break_step(r, step);
     }
-    if r.once_in(150) {
-        values.lengthen_part(r);
-    }
-    if r.once_in(1_000) {
-        values.lengthen_section(r);
-    }
-    values.room = r.room(values.length());
+    // A long output is lent only where it can be filled.
+    let length = if values.length() > LIMIT as usize { PROPERTIES_FIXED } else { values.length() };
+    values.room = r.room(length, &steps);
     values
 }
 
@@ -108,9 +112,9 @@ impl OwnedValues {
     }
 
     fn security_length(&self) -> usize {
-        let parts = [&self.sender_id, &self.encryption_key, &self.signature];
-        let parts = parts.into_iter().chain([&self.sender_cert, &self.provider_info]);
-        SECURITY_FIXED + parts.map(|part| part.len().next_multiple_of(4)).sum::<usize>()
+        let parts = [&self.sender_id, &self.encryption_key, &self.signature, &self.sender_cert];
+        let sizes = parts.map(Vec::len).into_iter().chain([self.provider_info.len()]);
+        SECURITY_FIXED + sizes.map(|size| size.next_multiple_of(4)).sum::<usize>()
     }
 
     fn legal(r: &mut Random) -> Self {
@@ -133,7 +137,8 @@ impl OwnedValues {
             (false, true) if r.once_in(2) => vec![],
             (false, true) => provider_info(r, units, &[0]),
             (false, false) => provider_info(r, 1 + units, &[0]),
-        };
+        }
+        .into();
         if self.security_length() == SECURITY_FIXED {
             let length = 1 + r.below(6);
             self.encryption_key = r.bytes(length);
@@ -163,7 +168,7 @@ impl OwnedValues {
         self.encryption_algorithm = r.cipher();
         let units = r.label_units();
         self.label = r.text(units, &[0]);
-        self.extension = small_part(r);
+        self.extension = small_part(r).into();
         self.body = small_part(r);
         self.allocation_body_size = match r.below(8) {
             0..=2 => (self.body.len() + r.below(20)) as u64,
@@ -172,36 +177,35 @@ impl OwnedValues {
         };
     }
 
-    /// Breaks, or takes to its boundary, what one step looks at.
-    fn break_one(&mut self, r: &mut Random) {
-        let step = r.below(12);
-        if step < 7 && !r.once_in(16) {
+    /// Breaks, or takes to its boundary, what one of the [`STEPS`] looks at.
+    fn break_step(&mut self, r: &mut Random, step: &str) {
+        if (step == "28" || step.starts_with('S')) && !r.once_in(16) {
             self.security_first = true;
         }
         match step {
-            0 => self.security_flags = self.security_flags & 0xFFF0 | r.below(16) as u16,
-            1 => self.security_flags |= r.pick(&[0x10, 0x100, 0x200, 0x400, 0x800, 0xF00, 0xF10]),
-            2 => self.break_presence(r),
-            3 => self.break_identity_size(r),
-            4 => self.break_provider_size(r),
-            5 => self.break_identity(r),
-            6 => self.break_provider(r),
-            7 => {
+            "28" => self.lengthen_part(r),
+            "S2" => self.security_flags = self.security_flags & 0xFFF0 | r.below(16) as u16,
+            "S3" => self.security_flags |= r.pick(&[0x10, 0x100, 0x200, 0x400, 0x800, 0xF00, 0xF10]),
+            "S4" => self.break_presence(r),
+            "S6" => self.break_identity_size(r),
+            "S7" => self.break_provider_size(r),
+            "S8" => self.lengthen_header(r),
+            "S10" => self.break_identity(r),
+            "S11" => self.break_provider(r),
+            "P2" => {
                 let length = r.pick(&[1, 2, 3, 496, 498, 499, 500, 501, 502, 510, 512, 514, 516, 600]);
                 self.label = r.text(length / 2, &[0]);
                 self.label.resize(length, 1);
             }
-            8 => self.message_class = r.odd_class(),
-            9 => self.break_allocation(r),
-            10 => {
+            "P3" => self.message_class = r.odd_class(),
+            "P4" => self.break_allocation(r),
+            "P5" => self.lengthen_section(r),
+            "P7" => {
                 let units = 1 + r.below(250);
                 let zeros = r.zeros(units);
                 self.label = r.text(units, &zeros);
             }
-            _ => {
-                let units = r.pick(&[249, 250, 251]);
-                self.label = r.text(units, &[0]);
-            }
+            _ => {} // 13 is about the output that is lent
         }
     }
 
@@ -214,16 +218,14 @@ impl OwnedValues {
         if r.once_in(2) {
             self.security_flags &= 0xFFF0;
         }
-        let parts = [
-            &mut self.sender_id,
-            &mut self.encryption_key,
-            &mut self.signature,
-            &mut self.sender_cert,
-            &mut self.provider_info,
-        ];
         let kept = r.below(10);
-        for (i, part) in parts.into_iter().enumerate() {
-            if i != kept {
+        if kept != 0 {
+            self.provider_info = Cow::default();
+        }
+        let parts =
+            [&mut self.sender_id, &mut self.encryption_key, &mut self.signature, &mut self.sender_cert];
+        for (part, number) in parts.into_iter().zip(1..) {
+            if kept != number {
                 part.clear();
             }
         }
@@ -243,8 +245,9 @@ impl OwnedValues {
     /// S7.
     fn break_provider_size(&mut self, r: &mut Random) {
         let length = r.below(14);
-        self.provider_info = provider_info(r, (length.max(4) - 4) / 2, &[0]);
-        self.provider_info.resize(length, 1);
+        let mut info = provider_info(r, (length.max(4) - 4) / 2, &[0]);
+        info.resize(length, 1);
+        self.provider_info = info.into();
         if r.once_in(2) {
             self.security_flags &= !0x40;
         }
@@ -271,7 +274,7 @@ impl OwnedValues {
         self.security_flags &= !0x40;
         let units = 2 + r.below(20);
         let zeros = r.zeros(units);
-        self.provider_info = provider_info(r, units, &zeros);
+        self.provider_info = provider_info(r, units, &zeros).into();
     }
 
     /// P4.
@@ -304,27 +307,39 @@ impl OwnedValues {
         }
     }
 
-    /// S8 and P5 and their boundaries. The parts are zero or one all through, which is quick.
+    /// S8, by provider info that is zero all through; or its boundary, by one that S11 passes.
+    fn lengthen_header(&mut self, r: &mut Random) {
+        if !r.once_in(12) {
+            self.provider_info = zero_bytes(LIMIT as usize + r.below(4));
+            return;
+        }
+        self.security_flags &= !0x40;
+        self.provider_info = Cow::default();
+        let room = LIMIT as usize - self.security_length();
+        let mut info = vec![1; room - r.pick(&[4, 60]) + 2 * r.below(7)];
+        let null = info.len() - 2;
+        info[null..].fill(0);
+        self.provider_info = info.into();
+    }
+
+    /// P5, by an extension that is zero all through; or its boundary, by an extension or a body.
     fn lengthen_section(&mut self, r: &mut Random) {
-        let over = r.below(13);
-        match r.below(4) {
-            0 => {
-                self.security_first = true;
-                self.security_flags &= !0x40;
-                self.provider_info = vec![];
-                let length = LIMIT as usize - self.security_length() + (over & !1) - r.pick(&[4, 60]);
-                self.provider_info = vec![1; length];
-                self.provider_info[length - 2..].fill(0);
-            }
-            1 => {
-                self.extension = vec![];
-                self.extension = vec![0; (LIMIT as usize - self.length() + over).saturating_sub(6)];
-            }
-            _ => {
-                self.body = vec![];
-                self.body = vec![0; (LIMIT as usize - self.length() + over).saturating_sub(6)];
-                self.allocation_body_size = self.body.len() as u64;
-            }
+        self.extension = Cow::default();
+        if !r.once_in(12) {
+            self.extension = zero_bytes(LIMIT as usize);
+            return;
+        }
+        let in_body = r.once_in(2);
+        if in_body {
+            self.body.clear();
+        }
+        let left = (LIMIT as usize).saturating_sub(self.length());
+        let long = zero_bytes((left + r.below(13)).saturating_sub(6));
+        if in_body {
+            self.body = long.into_owned();
+            self.allocation_body_size = self.allocation_body_size.max(self.body.len() as u64);
+        } else {
+            self.extension = long;
         }
     }
 }

@@ -2,7 +2,7 @@
 
 use crate::lend::lend;
 use crate::report::{agree, Check, Tally};
-use crate::side::{Answer, Part, Refusal, Request, SectionValues, Side, Sides};
+use crate::side::{Answer, Part, Refusal, Request, SectionValues, Side, Sides, Source};
 
 /// An example's name, and what it says of a side.
 type Example = (&'static str, fn(&dyn Side) -> Check);
@@ -247,7 +247,7 @@ fn listing(side: &dyn Side) -> Check {
     let mut file = b"\x57\x52\0\0\x3C\0\0\0".to_vec();
     file.append(&mut first);
     file.extend_from_slice(b"\x57\x52\0\0\x01\0\0\0\x09");
-    let listed = side.list(&file).map(|lines| String::from_utf8_lossy(&lines).into_owned());
+    let listed = side.list(&file, Source::Pipe).map(|lines| String::from_utf8_lossy(&lines).into_owned());
     let wanted = "no answer class label ext body total\n0 ok 0 0 1 3 60\n1 refused 1 0\nend 2\n";
     agree("the listing", &listed.map_err(|error| error.to_string()), &Ok(wanted.into()))
 }

@@ -1,16 +1,18 @@
 //! The proved library as one side, called through its safe crate; the listing through its program.
 
 use std::env;
-use std::io::{self, ErrorKind, Read, Write};
+use std::fs::{self, File};
+use std::io::{self, ErrorKind, Read, Seek, Write};
 use std::path::{Path, PathBuf};
-use std::process::{Command, Stdio};
+use std::process::{self, Command, Stdio};
+use std::sync::atomic::{AtomicUsize, Ordering};
 use std::thread;
 
 use independent::queue::Value;
 use ugbariteyo as library;
 
 use crate::side::{Answer, Defaulted, Image, Part, Parts, Reading, Refusal, Request, SectionValues};
-use crate::side::{Security, Side, Summary};
+use crate::side::{Security, Side, Source, Summary};
 
 /// Where the listing program lies where nothing else is said.
 const LISTING: &str = concat!(env!("CARGO_MANIFEST_DIR"), "/../../target/bin/listing");
@@ -76,14 +78,17 @@ impl Side for Library {
     fn send(&self, values: &Request<'_>, out: &mut [u8]) -> Answer<usize> {
         library::send(&request(values), out).map_err(refusal)
     }
-    fn list(&self, file: &[u8]) -> io::Result<Vec<u8>> {
-        let mut program =
-            Command::new(self.listing()?).stdin(Stdio::piped()).stdout(Stdio::piped()).spawn()?;
-        let mut stdin = program.stdin.take().expect("the input is a pipe");
+    fn list(&self, file: &[u8], source: Source) -> io::Result<Vec<u8>> {
+        let stdin = match source {
+            Source::Pipe => Stdio::piped(),
+            Source::File => unnamed(file)?.into(),
+        };
+        let mut program = Command::new(self.listing()?).stdin(stdin).stdout(Stdio::piped()).spawn()?;
+        let stdin = program.stdin.take();
         let mut stdout = program.stdout.take().expect("the output is a pipe");
         let mut lines = Vec::new();
         thread::scope(|threads| {
-            let fed = threads.spawn(move || stdin.write_all(file));
+            let fed = threads.spawn(move || stdin.map_or(Ok(()), |mut pipe| pipe.write_all(file)));
             stdout.read_to_end(&mut lines)?;
             match fed.join().expect("feeding does not panic") {
                 // it may stop before the end
@@ -97,6 +102,18 @@ impl Side for Library {
         }
         Ok(lines)
     }
+}
+
+/// A file with this content, open at its start, whose name is gone already.
+fn unnamed(content: &[u8]) -> io::Result<File> {
+    static FILES: AtomicUsize = AtomicUsize::new(0);
+    let number = FILES.fetch_add(1, Ordering::Relaxed);
+    let name = env::temp_dir().join(format!("compare-day-{}-{number}", process::id()));
+    let mut file = File::options().read(true).write(true).create_new(true).open(&name)?;
+    fs::remove_file(&name)?;
+    file.write_all(content)?;
+    file.rewind()?;
+    Ok(file)
 }
 
 fn refusal(refusal: library::Refusal) -> Refusal {

@@ -2,58 +2,92 @@
 
 use std::io;
 
-use independent::generate::{case, day, Random};
-use independent::listing::SECTION_MOST;
+use independent::generate::{day, long_day, Random};
+use independent::listing::{ended_by, next_record, section_length, Next, RECORD_MOST, SECTION_MOST};
+use independent::neighbours::{self, List};
 
-use crate::report::{agree, hex, Check, Tally};
-use crate::side::Sides;
+use crate::report::{agree, hex, Check, Tally, OFTEN};
+use crate::side::{Sides, Source};
 
-/// The records of a long day file.
-const LONG: usize = 1_000;
 /// The short day files to each long one.
-const SHORT: usize = 10;
+const SHORT: usize = 600;
+/// The bytes of the listing program's buffers.
+const BUFFER: usize = 65_536;
+/// What counts as several buffers.
+const SEVERAL: usize = 200_000;
 
-/// Compares the listings of generated day files that hold `records` records or more: long ones, and short ones whose
-/// heads are wrong or cut now and then.
+/// What the files are to meet.
+const LARGEST: &str = "length 32768";
+const LARGEST_ACCEPTED: &str = "section of 32768";
+const LARGEST_AT_END: &str = "length 32768 next to a buffer's end";
+const TOO_LONG: &str = "length 32769";
+const WRONG_HEAD: &str = "wrong head after records";
+const CUT_HEAD: &str = "cut head after records";
+const CUT_SECTION: &str = "cut section after records";
+const LONG: &str = "over 200 KB in and out";
+/// How often they are to meet a file that is long in and out.
+const LONG_LEAST: u64 = 5;
+
+/// Compares the listings of generated day files that hold `records` records or more: long ones, and short ones that end
+/// in a head or a section that is wrong or cut.
 pub fn run(sides: Sides<'_>, records: u64, r: &mut Random) -> io::Result<Tally> {
-    let mut tally = Tally::new("records listed");
-    add(&mut tally, sides, &[])?;
+    let mut tally = Tally::with_neighbours("records listed", List::Record);
+    let lengths = [LARGEST, LARGEST_ACCEPTED, LARGEST_AT_END, TOO_LONG];
+    for what in lengths.into_iter().chain([WRONG_HEAD, CUT_HEAD, CUT_SECTION]) {
+        tally.is_to_meet(what, OFTEN);
+    }
+    tally.is_to_meet(LONG, LONG_LEAST);
+    add(&mut tally, sides, &[], Source::Pipe)?;
     while tally.cases() < records {
-        add(&mut tally, sides, &long_day(r))?;
+        let long = long_day(r);
+        add(&mut tally, sides, &long, Source::File)?;
+        add(&mut tally, sides, &long, Source::Pipe)?;
         for _ in 0..SHORT {
-            add(&mut tally, sides, &day(r))?;
+            add(&mut tally, sides, &day(r), Source::Pipe)?;
         }
     }
     Ok(tally)
 }
 
-/// A long row of whole records, then a short day file.
-fn long_day(r: &mut Random) -> Vec<u8> {
-    let mut file = Vec::new();
-    for _ in 0..LONG {
-        let mut record = case(r);
-        record.bytes.truncate(SECTION_MOST);
-        file.extend_from_slice(&[0x57, 0x52, u8::from(record.security_first), 0]);
-        file.extend_from_slice(&(record.bytes.len() as u32).to_le_bytes());
-        file.extend_from_slice(&record.bytes);
-    }
-    file.extend_from_slice(&day(r));
-    file
-}
-
 /// Lists one file with both sides and counts its records.
-fn add(tally: &mut Tally, sides: Sides<'_>, file: &[u8]) -> io::Result<()> {
-    let (one, other) = (sides.one.list(file)?, sides.other.list(file)?);
+fn add(tally: &mut Tally, sides: Sides<'_>, file: &[u8], source: Source) -> io::Result<()> {
+    let (one, other) = (sides.one.list(file, source)?, sides.other.list(file, source)?);
+    tally.meet_if(file.len() > SEVERAL && one.len() > SEVERAL, LONG);
+    survey(tally, file);
     let (one, other) = (String::from_utf8_lossy(&one), String::from_utf8_lossy(&other));
-    for line in other.lines() {
-        match line.split(' ').collect::<Vec<_>>()[..] {
-            [_, "ok", ..] => tally.count(Ok(())),
-            [_, "refused", number, ..] => tally.count(Err(number.parse().unwrap_or(0))),
-            _ => {}
-        }
-    }
     tally.check(compare(&one, &other), || hex(file));
     Ok(())
+}
+
+/// Counts a file's records, and what it meets. A buffer is taken to be filled up whenever it holds less than a largest
+/// record.
+fn survey(tally: &mut Tally, file: &[u8]) {
+    let mut rest = file;
+    let mut buffered = BUFFER;
+    while let Next::Record { size, answer } = next_record(rest) {
+        let at = file.len() - rest.len();
+        tally.count(answer.map(|_| ()).map_err(|refusal| refusal.number));
+        if size == RECORD_MOST {
+            tally.meet(LARGEST);
+            tally.meet_if((at + size).abs_diff(buffered) < 10, LARGEST_AT_END);
+            tally.meet_if(answer.is_ok_and(|line| line.total == SECTION_MOST), LARGEST_ACCEPTED);
+        }
+        if buffered < at + RECORD_MOST {
+            buffered = at + BUFFER;
+        }
+        rest = &rest[size..];
+    }
+    tally.meet_neighbours(neighbours::record(rest));
+    let ended_by = ended_by(rest);
+    let too_long = section_length(rest) == SECTION_MOST + 1 && rest.len() > RECORD_MOST;
+    tally.meet_if(ended_by == Some("length") && too_long, TOO_LONG);
+    if rest.len() < file.len() && !rest.is_empty() {
+        tally.meet(match ended_by {
+            Some("cut head") => CUT_HEAD,
+            Some("cut section") => CUT_SECTION,
+            _ => WRONG_HEAD,
+        });
+    }
 }
 
 /// Compares two listings byte for byte; a difference shows the first line that differs.

@@ -2,7 +2,7 @@
 //!
 //! FACTOR multiplies the number of cases. SEED is a number, or `random` for one from the clock. LISTING is the listing
 //! program, else the environment's LISTING, else `target/bin/listing` of the repository. The exit status is 1 where
-//! anything differs.
+//! anything differs, or where the cases met something too seldom: a refusal, or two neighbouring steps broken together.
 
 use std::env;
 use std::io;
@@ -83,6 +83,7 @@ fn run(arguments: Arguments) -> io::Result<u64> {
     let (mut cases, mut differences) = (0, 0);
     let mut print = |mut tally: Tally, refusals: &[u32]| {
         tally.has_met(refusals);
+        tally.has_met_all();
         println!("{tally}");
         tally.first().iter().for_each(|difference| println!("  {difference}"));
         cases += tally.cases();

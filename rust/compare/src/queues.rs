@@ -1,6 +1,7 @@
 //! Queue format images read and written by both sides.
 
 use independent::generate::{image, image_values, ImageValues, Random};
+use independent::neighbours::{self, List};
 use independent::queue::HEAD;
 
 use crate::lend::{lend, Written};
@@ -10,7 +11,7 @@ use crate::side::{Image, Side, Sides};
 
 /// Compares generated images, after every pair of type and suffix byte.
 pub fn run_reading(sides: Sides<'_>, cases: u64, r: &mut Random) -> Tally {
-    let mut tally = Tally::new("queue images read");
+    let mut tally = Tally::with_neighbours("queue images read", List::ImageRead);
     for kind in 0..=u8::MAX {
         for suffix_and_flags in 0..=u8::MAX {
             let (fixed, text) = value_of(kind);
@@ -25,7 +26,7 @@ pub fn run_reading(sides: Sides<'_>, cases: u64, r: &mut Random) -> Tally {
 
 /// Compares generated values, after every pair of type and suffix byte.
 pub fn run_writing(sides: Sides<'_>, cases: u64, r: &mut Random) -> Tally {
-    let mut tally = Tally::new("queue values written");
+    let mut tally = Tally::with_neighbours("queue values written", List::ImageWritten);
     for kind in 0..=u8::MAX {
         for suffix_and_flags in 0..=u8::MAX {
             let (fixed, text) = value_of(kind);
@@ -54,6 +55,7 @@ fn value_of(kind: u8) -> (&'static [u8], &'static [u8]) {
 fn add_image(tally: &mut Tally, sides: Sides<'_>, input: &[u8]) {
     let check = compare_image(sides, input);
     tally.add(&sides.one.read_image(input), check, || hex(input));
+    tally.meet_neighbours(neighbours::image_read(input));
 }
 
 /// Reads the image with both sides; written again by the one, it is the same with the reserved bytes zero.
@@ -73,6 +75,9 @@ fn add_values(tally: &mut Tally, sides: Sides<'_>, values: &ImageValues) {
     let check = compare_values(sides, values);
     let answer = write(sides.one, values, values.room).answer;
     tally.add(&answer, check, || values_in_hex(values));
+    let ImageValues { fixed, text, room, .. } = values;
+    let format = [values.kind, values.suffix_and_flags];
+    tally.meet_neighbours(neighbours::image_written(format, fixed, text, *room));
 }
 
 fn write(side: &dyn Side, values: &ImageValues, room: usize) -> Written {

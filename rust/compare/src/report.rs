@@ -1,7 +1,9 @@
 //! What a comparison came to: a difference, a tally for each kind of case, and the table of all.
 
 use std::collections::BTreeMap;
-use std::fmt::{self, Debug};
+use std::fmt::{self, Debug, Display, Write};
+
+use independent::neighbours::{List, Neighbours};
 
 use crate::side::Answer;
 
@@ -9,6 +11,8 @@ use crate::side::Answer;
 const SHOWN: usize = 3;
 /// The characters of an input or an answer that are shown.
 const SHOWN_LENGTH: usize = 600;
+/// How often a run meets each pair of neighbouring steps broken together.
+pub const OFTEN: u64 = 100;
 
 /// Two answers that have to be the same and are not.
 #[derive(Debug)]
@@ -22,7 +26,7 @@ pub fn agree<T: PartialEq + Debug + ?Sized>(what: &str, found: &T, wanted: &T) -
     if found == wanted {
         return Ok(());
     }
-    let (found, wanted) = (shortened(&format!("{found:?}")), shortened(&format!("{wanted:?}")));
+    let (found, wanted) = (shortened(format_args!("{found:?}")), shortened(format_args!("{wanted:?}")));
     Err(Difference(format!("{what}\n    one:   {found}\n    other: {wanted}")))
 }
 
@@ -37,7 +41,7 @@ pub fn require(what: &str, holds: bool) -> Check {
 
 /// Values with their numbers and bytes in hex.
 pub fn values_in_hex(values: &impl Debug) -> String {
-    shortened(&format!("{values:02x?}"))
+    shortened(format_args!("{values:02x?}"))
 }
 
 /// Bytes in hex.
@@ -51,12 +55,32 @@ pub fn hex(bytes: &[u8]) -> String {
     }
 }
 
-/// The start of a text that may be long.
-fn shortened(text: &str) -> String {
-    match text.char_indices().nth(SHOWN_LENGTH) {
-        Some((end, _)) => format!("{}.. ({} characters)", &text[..end], text.len()),
-        None => text.into(),
+/// The start of a text that may be long. What is not shown is not made: a part can have millions of bytes.
+fn shortened(text: fmt::Arguments<'_>) -> String {
+    let mut start = Start(String::new());
+    match start.write_fmt(text) {
+        Ok(()) => start.0,
+        Err(fmt::Error) => start.0 + "..",
     }
+}
+
+/// A text that ends with an error where more than is shown is written to it.
+struct Start(String);
+
+impl Write for Start {
+    fn write_str(&mut self, text: &str) -> fmt::Result {
+        let room = SHOWN_LENGTH - self.0.len();
+        let cut = text.char_indices().find(|(at, c)| at + c.len_utf8() > room);
+        self.0.push_str(cut.map_or(text, |(end, _)| &text[..end]));
+        cut.map_or(Ok(()), |_| Err(fmt::Error))
+    }
+}
+
+/// Something that the cases of a kind are to meet, and how often they do.
+struct Met {
+    what: String,
+    least: u64,
+    times: u64,
 }
 
 /// The cases of one kind.
@@ -65,6 +89,7 @@ pub struct Tally {
     cases: u64,
     accepted: u64,
     refused: BTreeMap<u32, u64>,
+    met: Vec<Met>,
     differences: u64,
     first: Vec<String>,
 }
@@ -72,7 +97,43 @@ pub struct Tally {
 impl Tally {
     /// No case yet.
     pub fn new(name: &'static str) -> Self {
-        Self { name, cases: 0, accepted: 0, refused: BTreeMap::new(), differences: 0, first: Vec::new() }
+        let (refused, met, first) = Default::default();
+        Self { name, cases: 0, accepted: 0, refused, met, differences: 0, first }
+    }
+
+    /// No case yet, of a kind that is to meet the neighbours of `list` broken together.
+    pub fn with_neighbours(name: &'static str, list: List) -> Self {
+        let mut tally = Self::new(name);
+        for pair in list.neighbours() {
+            tally.is_to_meet(pair, OFTEN);
+        }
+        tally
+    }
+
+    /// The cases are to meet `what` so many times.
+    pub fn is_to_meet(&mut self, what: impl Display, least: u64) {
+        self.met.push(Met { what: what.to_string(), least, times: 0 });
+    }
+
+    /// Counts that a case met `what`.
+    pub fn meet(&mut self, what: impl Display) {
+        let what = what.to_string();
+        let met = self.met.iter_mut().find(|met| met.what == what);
+        met.expect("it was to be met").times += 1;
+    }
+
+    /// Counts that a case met `what`, where `it_did`.
+    pub fn meet_if(&mut self, it_did: bool, what: impl Display) {
+        if it_did {
+            self.meet(what);
+        }
+    }
+
+    /// Counts the neighbours that a case breaks together, if it does.
+    pub fn meet_neighbours(&mut self, both: Option<Neighbours>) {
+        if let Some(both) = both {
+            self.meet(both);
+        }
     }
 
     /// Counts one case: its answer, and whether it held. `case` describes it where it did not.
@@ -100,6 +161,12 @@ impl Tally {
         }
     }
 
+    /// How many cases met `what`.
+    pub fn times_met(&self, what: impl Display) -> u64 {
+        let what = what.to_string();
+        self.met.iter().find(|met| met.what == what).map_or(0, |met| met.times)
+    }
+
     /// How many cases there were.
     pub fn cases(&self) -> u64 {
         self.cases
@@ -118,6 +185,15 @@ impl Tally {
         }
     }
 
+    /// Notes a difference for each thing that was to be met and was not often enough.
+    pub fn has_met_all(&mut self) {
+        let seldom = self.met.iter().filter(|met| met.times < met.least);
+        let seldom: Vec<_> = seldom.map(|met| format!("{} only {} times", met.what, met.times)).collect();
+        for met in seldom {
+            self.check(require("it was met often enough", false), || met);
+        }
+    }
+
     /// The first differences, with their inputs.
     pub fn first(&self) -> &[String] {
         &self.first
@@ -131,6 +207,11 @@ pub const HEADER: &str =
 impl fmt::Display for Tally {
     fn fmt(&self, f: &mut fmt::Formatter<'_>) -> fmt::Result {
         write!(f, "{:<26} {:>8} {:>10} {:>11} ", self.name, self.cases, self.accepted, self.differences)?;
-        self.refused.iter().try_for_each(|(number, cases)| write!(f, " {number}: {cases}"))
+        self.refused.iter().try_for_each(|(number, cases)| write!(f, " {number}: {cases}"))?;
+        if self.met.is_empty() {
+            return Ok(());
+        }
+        let met: Vec<_> = self.met.iter().map(|met| format!("{} {}", met.what, met.times)).collect();
+        write!(f, "\n  met: {}", met.join(", "))
     }
 }

@@ -1,6 +1,7 @@
 //! Send requests defaulted and written by both sides.
 
 use independent::generate::{request, OwnedRequest, Random};
+use independent::neighbours::{self, List};
 
 use crate::lend::{lend, Written};
 use crate::report::{agree, values_in_hex, Check, Tally};
@@ -10,12 +11,13 @@ use crate::writing::read_values;
 
 /// Compares generated requests.
 pub fn run(sides: Sides<'_>, cases: u64, r: &mut Random) -> Tally {
-    let mut tally = Tally::new("requests");
+    let mut tally = Tally::with_neighbours("requests", List::Sending);
     for _ in 0..cases {
         let owned = request(r);
         let check = compare(sides, &owned);
         let answer = send(sides.one, &owned.as_request(), owned.room).answer;
         tally.add(&answer, check, || values_in_hex(&owned));
+        tally.meet_neighbours(neighbours::sending(&owned.as_request(), owned.room));
     }
     tally
 }

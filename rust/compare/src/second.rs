@@ -5,7 +5,7 @@ use std::io;
 use independent::{queue, request};
 
 use crate::side::{part_of, Answer, Defaulted, Image, Reading, Request, Section, SectionValues};
-use crate::side::{Security, Side, Summary};
+use crate::side::{Security, Side, Source, Summary};
 
 /// The independent reader and writer.
 pub struct Independent;
@@ -45,7 +45,7 @@ impl Side for Independent {
     fn send(&self, request: &Request<'_>, out: &mut [u8]) -> Answer<usize> {
         request::send(request, out)
     }
-    fn list(&self, file: &[u8]) -> io::Result<Vec<u8>> {
+    fn list(&self, file: &[u8], _: Source) -> io::Result<Vec<u8>> {
         let mut lines = Vec::new();
         independent::listing::list(file, &mut lines)?;
         Ok(lines)

@@ -1,7 +1,9 @@
 //! Sections read, copied and written again by both sides.
 
-use independent::generate::{case, long_case, Random};
+use independent::generate::{case, long_case, Case, Random};
+use independent::neighbours::{self, List};
 use independent::number::OUTPUT_SHORT;
+use independent::PROPERTIES_FIXED;
 
 use crate::bits;
 use crate::lend::lend;
@@ -12,16 +14,21 @@ use crate::side::{Answer, Reading, Refusal, Sides, Summary};
 const LONG: u64 = 2_000;
 /// The stand-in for a label.
 const STAND_IN: &[u8] = b"no label";
+/// The shortest output that a copy is tried in where the input is refused: no section fits in it.
+const SHORTEST: usize = PROPERTIES_FIXED - 1;
 /// The refusal of an output that is short.
 pub const SHORT: Refusal = Refusal { number: OUTPUT_SHORT, place: 0 };
 
 /// Compares generated sections, read as they were made and the other way.
 pub fn run(sides: Sides<'_>, cases: u64, r: &mut Random) -> [Tally; 2] {
-    let mut tallies = [Tally::new("sections"), Tally::new("sections the other way")];
+    let sections = Tally::with_neighbours("sections", List::Reading);
+    let mut tallies = [sections, Tally::new("sections the other way")];
     for number in 0..cases {
         let case = if number % LONG == LONG - 1 { long_case(r) } else { case(r) };
-        add(&mut tallies[0], sides, &case.bytes, case.security_first, r);
-        add(&mut tallies[1], sides, &case.bytes, !case.security_first, r);
+        let Case { bytes, security_first } = case;
+        add(&mut tallies[0], sides, &bytes, security_first, r);
+        tallies[0].meet_neighbours(neighbours::reading(&bytes, security_first, SHORTEST));
+        add(&mut tallies[1], sides, &bytes, !security_first, r);
     }
     tallies
 }
@@ -57,7 +64,7 @@ fn compare_copies(
     summary: &Answer<Summary<'_>>,
     r: &mut Random,
 ) -> Check {
-    let length = summary.map_or(56, |summary| summary.length);
+    let length = summary.map_or(SHORTEST + 1, |summary| summary.length);
     for room in [length, length + 1 + r.below(9), length - 1] {
         let copy = sides.both("the support copy", |side| {
             lend(room, |out| side.support_copy(input, security_first, out))

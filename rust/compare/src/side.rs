@@ -149,7 +149,16 @@ pub trait Side {
     /// The section of a request.
     fn send(&self, request: &Request<'_>, out: &mut [u8]) -> Answer<usize>;
     /// The listing of a day file.
-    fn list(&self, file: &[u8]) -> io::Result<Vec<u8>>;
+    fn list(&self, file: &[u8], source: Source) -> io::Result<Vec<u8>>;
+}
+
+/// Where a listing program reads a day file from.
+#[derive(Debug, Clone, Copy, PartialEq, Eq)]
+pub enum Source {
+    /// A pipe: a read may give less than was asked for.
+    Pipe,
+    /// A file: a read gives all that was asked for, up to the end.
+    File,
 }
 
 /// The two libraries that are held against each other.

@@ -1,6 +1,7 @@
 //! Sections written from values by both sides.
 
 use independent::generate::{section_values, OwnedValues, Random};
+use independent::neighbours::{self, List};
 
 use crate::lend::{lend, Written};
 use crate::report::{agree, values_in_hex, Check, Tally};
@@ -9,12 +10,13 @@ use crate::side::{Reading, SectionValues, Side, Sides};
 
 /// Compares generated values.
 pub fn run(sides: Sides<'_>, cases: u64, r: &mut Random) -> Tally {
-    let mut tally = Tally::new("section values written");
+    let mut tally = Tally::with_neighbours("section values written", List::Writing);
     for _ in 0..cases {
         let values = section_values(r);
         let check = compare(sides, &values);
         let answer = write(sides.one, &values.as_values(), values.room).answer;
         tally.add(&answer, check, || values_in_hex(&values));
+        tally.meet_neighbours(neighbours::writing(&values.as_values(), values.room));
     }
     tally
 }

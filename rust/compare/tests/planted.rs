@@ -5,13 +5,15 @@ use std::io;
 use compare::library::Library;
 use compare::report::Tally;
 use compare::second::{defaulted, reading, summary, Independent};
-use compare::side::{Answer, Defaulted, Image, Reading, Request, SectionValues, Side, Sides, Summary};
+use compare::side::{Answer, Defaulted, Image, Reading, Request, SectionValues, Side, Sides};
+use compare::side::{Source, Summary};
 use compare::{examples, listing, properties, queues, requests, sections, sweeps, writing};
 use independent::generate::Random;
+use independent::neighbours::{List, Neighbours};
 use independent::planted;
 
 /// The generated cases of a kind.
-const CASES: u64 = 4_000;
+const CASES: u64 = 8_000;
 
 /// The one function that is wrong.
 #[derive(Debug, Clone, Copy, PartialEq)]
@@ -38,6 +40,16 @@ enum Fault {
     List,
     /// Every refusal changes a lent byte.
     Refusal,
+    /// Two neighbouring steps of a list are exchanged.
+    Exchanged(List, Neighbours),
+    /// A test of a record's head is left out.
+    LeftOut(&'static str),
+}
+
+/// Every exchange of neighbouring steps in a list that can show.
+fn exchanges(list: List) -> Vec<Fault> {
+    let shown = list.neighbours().into_iter().filter(|pair| !pair.alike);
+    shown.map(|pair| Fault::Exchanged(list, pair)).collect()
 }
 
 /// The independent library with one wrong function.
@@ -57,12 +69,17 @@ impl Side for Planted {
     fn read<'a>(&self, input: &'a [u8], security_first: bool) -> Answer<Reading<'a>> {
         match self.0 {
             Fault::Read => planted::read(input, security_first).map(|section| reading(&section, input)),
+            Fault::Exchanged(List::Reading, pair) => planted::read_exchanged(pair.at, input, security_first)
+                .map(|section| reading(&section, input)),
             _ => Independent.read(input, security_first),
         }
     }
     fn summarize<'a>(&self, input: &'a [u8], security_first: bool) -> Answer<Summary<'a>> {
         match self.0 {
             Fault::Read => planted::read(input, security_first).map(|section| summary(&section)),
+            Fault::Exchanged(List::Reading, _) => {
+                self.read(input, security_first).map(|reading| reading.summary)
+            }
             _ => Independent.summarize(input, security_first),
         }
     }
@@ -78,6 +95,9 @@ impl Side for Planted {
     fn support_copy(&self, input: &[u8], security_first: bool, out: &mut [u8]) -> Answer<usize> {
         let answer = match self.0 {
             Fault::SupportCopy => planted::support_copy(input, security_first, out),
+            Fault::Exchanged(List::Reading, pair) => {
+                planted::support_copy_exchanged(pair.at, input, security_first, out)
+            }
             _ => Independent.support_copy(input, security_first, out),
         };
         self.written(answer, out)
@@ -85,6 +105,7 @@ impl Side for Planted {
     fn write_section(&self, values: &SectionValues<'_>, out: &mut [u8]) -> Answer<usize> {
         let answer = match self.0 {
             Fault::WriteSection => planted::write_section(values, out),
+            Fault::Exchanged(List::Writing, pair) => planted::write_exchanged(pair.at, values, out),
             _ => Independent.write_section(values, out),
         };
         self.written(answer, out)
@@ -96,12 +117,16 @@ impl Side for Planted {
     fn read_image<'a>(&self, input: &'a [u8]) -> Answer<Image<'a>> {
         match self.0 {
             Fault::ReadImage => planted::read_image(input),
+            Fault::Exchanged(List::ImageRead, pair) => planted::read_image_exchanged(pair.at, input),
             _ => Independent.read_image(input),
         }
     }
     fn write_image(&self, format: [u8; 2], fixed: &[u8], text: &[u8], out: &mut [u8]) -> Answer<usize> {
         let answer = match self.0 {
             Fault::WriteImage => planted::write_image(format[0], format[1], fixed, text, out),
+            Fault::Exchanged(List::ImageWritten, pair) => {
+                planted::write_image_exchanged(pair.at, format, fixed, text, out)
+            }
             _ => Independent.write_image(format, fixed, text, out),
         };
         self.written(answer, out)
@@ -109,22 +134,28 @@ impl Side for Planted {
     fn defaulted<'a>(&self, request: &Request<'a>) -> Answer<Defaulted<'a>> {
         match self.0 {
             Fault::Defaulted => planted::defaulted(request).map(defaulted),
+            Fault::Exchanged(List::Sending, pair) => {
+                planted::defaulted_exchanged(pair.at, request).map(defaulted)
+            }
             _ => Independent.defaulted(request),
         }
     }
     fn send(&self, request: &Request<'_>, out: &mut [u8]) -> Answer<usize> {
         let answer = match self.0 {
             Fault::Send => planted::send(request, out),
+            Fault::Exchanged(List::Sending, pair) => planted::send_exchanged(pair.at, request, out),
             _ => Independent.send(request, out),
         };
         self.written(answer, out)
     }
-    fn list(&self, file: &[u8]) -> io::Result<Vec<u8>> {
-        if self.0 != Fault::List {
-            return Independent.list(file);
-        }
+    fn list(&self, file: &[u8], source: Source) -> io::Result<Vec<u8>> {
         let mut lines = Vec::new();
-        planted::list(file, &mut lines)?;
+        match self.0 {
+            Fault::List => planted::list(file, &mut lines)?,
+            Fault::Exchanged(List::Record, pair) => planted::list_exchanged(pair.at, file, &mut lines)?,
+            Fault::LeftOut(test) => planted::list_without(test, file, &mut lines)?,
+            _ => lines = Independent.list(file, source)?,
+        }
         Ok(lines)
     }
 }
@@ -137,13 +168,18 @@ fn finds(faults: &[Fault], run: impl Fn(Sides<'_>) -> Tally) {
     for &fault in faults {
         let wrong = run(Sides { one: &library, other: &Planted(fault) });
         assert!(wrong.differences() > 0, "{fault:?} is not found: {wrong}");
+        if let Fault::Exchanged(_, pair) = fault {
+            assert_eq!(wrong.differences(), wrong.times_met(pair), "{pair} shows where both are broken");
+        }
     }
 }
 
 #[test]
 fn sections_read_and_copied() {
     use Fault::{LabelShown, Read, Refusal, SameSummary, SupportCopy, WriteSection};
-    finds(&[Read, SameSummary, LabelShown, SupportCopy, WriteSection, Refusal], |sides| {
+    let mut faults = vec![Read, SameSummary, LabelShown, SupportCopy, WriteSection, Refusal];
+    faults.append(&mut exchanges(List::Reading));
+    finds(&faults, |sides| {
         let [sections, _] = sections::run(sides, CASES, &mut Random::new(1));
         sections
     });
@@ -165,31 +201,35 @@ fn demand_3_of_one_side() {
 
 #[test]
 fn section_values_written() {
-    finds(&[Fault::WriteSection, Fault::Refusal], |sides| writing::run(sides, CASES, &mut Random::new(4)));
+    let faults = [vec![Fault::WriteSection, Fault::Refusal], exchanges(List::Writing)].concat();
+    finds(&faults, |sides| writing::run(sides, CASES, &mut Random::new(4)));
 }
 
 #[test]
 fn queue_images_read() {
-    finds(&[Fault::ReadImage], |sides| queues::run_reading(sides, CASES, &mut Random::new(5)));
+    let faults = [vec![Fault::ReadImage], exchanges(List::ImageRead)].concat();
+    finds(&faults, |sides| queues::run_reading(sides, CASES, &mut Random::new(5)));
 }
 
 #[test]
 fn queue_values_written() {
-    finds(&[Fault::WriteImage, Fault::Refusal], |sides| {
-        queues::run_writing(sides, CASES, &mut Random::new(6))
-    });
+    let faults = [vec![Fault::WriteImage, Fault::Refusal], exchanges(List::ImageWritten)].concat();
+    finds(&faults, |sides| queues::run_writing(sides, CASES, &mut Random::new(6)));
 }
 
 #[test]
 fn requests_sent() {
-    finds(&[Fault::Defaulted, Fault::Send, Fault::Refusal], |sides| {
-        requests::run(sides, CASES, &mut Random::new(7))
-    });
+    let faults = [vec![Fault::Defaulted, Fault::Send, Fault::Refusal], exchanges(List::Sending)].concat();
+    finds(&faults, |sides| requests::run(sides, CASES, &mut Random::new(7)));
 }
 
 #[test]
 fn day_files_listed() {
-    finds(&[Fault::List], |sides| {
+    let mut faults = vec![Fault::List];
+    faults.append(&mut exchanges(List::Record));
+    // Tests of a head answer alike: that each of them counts shows where it is left out.
+    faults.extend(planted::HEAD_TESTS.map(Fault::LeftOut));
+    finds(&faults, |sides| {
         listing::run(sides, CASES, &mut Random::new(8)).expect("the listing program runs")
     });
 }

@@ -9,11 +9,13 @@ use crate::section::summarize;
 ///
 /// Refused as [`read`](crate::read) is, then with 13 where `out` is shorter than the section. A refusal
 /// writes nothing, and bytes of `out` behind the copy stay as they were.
+#[inline]
 pub fn support_copy(input: &[u8], security_first: bool, out: &mut [u8]) -> Result<usize, Refusal> {
     ffi::written(ffi::support_copy(input, security_first, out))
 }
 
 /// The support copy in a vector of its own. Refused as [`read`](crate::read) is.
+#[inline]
 pub fn support_copy_vec(input: &[u8], security_first: bool) -> Result<Vec<u8>, Refusal> {
     let mut copy = vec![0; summarize(input, security_first)?.section_length];
     support_copy(input, security_first, &mut copy)?;

@@ -6,8 +6,9 @@
 #![allow(unsafe_code)]
 
 use std::mem::{offset_of, size_of};
+use std::ptr;
 
-use crate::refusal;
+use crate::{refusal, write};
 
 #[repr(C)]
 #[derive(Clone, Copy)]
@@ -106,6 +107,7 @@ pub(crate) struct Summarized {
 }
 
 #[repr(C)]
+#[derive(Clone, Copy)]
 pub(crate) struct Reading {
     pub refusal: Refusal,
     pub section: Section,
@@ -183,6 +185,21 @@ const _: () = {
     assert!(size_of::<ImageRead>() == 56 && offset_of!(ImageRead, fixed) == 24);
 };
 
+/// Checks that a section's values begin with these numbers, each in its place.
+macro_rules! numbers_first {
+    ($($number:ident)*) => {
+        const _: () = {
+            assert!(size_of::<write::SectionValues>() >= size_of::<SectionValues>());
+            $(assert!(offset_of!(write::SectionValues, $number) == offset_of!(SectionValues, $number));)*
+        };
+    };
+}
+
+numbers_first! {
+    security_first security_flags flags message_class body_type application_tag allocation_body_size
+    privacy_level hash_algorithm encryption_algorithm
+}
+
 extern "C" {
     fn ugb_summarize(s: *const u8, s_length: usize, security_first: bool) -> Summarized;
     fn ugb_read(s: *const u8, s_length: usize, security_first: bool) -> Reading;
@@ -236,6 +253,7 @@ extern "C" {
 }
 
 /// `Ok` where nothing is refused.
+#[inline]
 pub(crate) fn accepted(refusal: Refusal) -> Result<(), refusal::Refusal> {
     match refusal.number {
         0 => Ok(()),
@@ -244,81 +262,84 @@ pub(crate) fn accepted(refusal: Refusal) -> Result<(), refusal::Refusal> {
 }
 
 /// The number of bytes written.
+#[inline]
 pub(crate) fn written(output: Output) -> Result<usize, refusal::Refusal> {
     accepted(output.refusal).map(|()| output.length)
 }
 
+#[inline]
 pub(crate) fn summarize(s: &[u8], security_first: bool) -> Summarized {
     // SAFETY: pointer and length are those of a slice.
     unsafe { ugb_summarize(s.as_ptr(), s.len(), security_first) }
 }
 
+#[inline]
 pub(crate) fn read(s: &[u8], security_first: bool) -> Reading {
     // SAFETY: pointer and length are those of a slice.
     unsafe { ugb_read(s.as_ptr(), s.len(), security_first) }
 }
 
+#[inline]
 pub(crate) fn same_summary(a: &[u8], b: &[u8], security_first: bool) -> bool {
     // SAFETY: pointers and lengths are those of two slices.
     unsafe { ugb_same_summary(a.as_ptr(), a.len(), b.as_ptr(), b.len(), security_first) }
 }
 
+#[inline]
 pub(crate) fn label_shown(s: &[u8], security_first: bool) -> Label {
     // SAFETY: pointer and length are those of a slice.
     unsafe { ugb_label_shown(s.as_ptr(), s.len(), security_first) }
 }
 
+#[inline]
 pub(crate) fn support_copy(s: &[u8], security_first: bool, out: &mut [u8]) -> Output {
     // SAFETY: pointers and lengths are those of slices, and `out` is borrowed alone.
     unsafe { ugb_support_copy(s.as_ptr(), s.len(), security_first, out.as_mut_ptr(), out.len()) }
 }
 
-/// What the section writer takes beside the values.
-pub(crate) struct SectionParts<'a> {
-    pub correlation_id: &'a [u8; 20],
-    pub sender_id: &'a [u8],
-    pub encryption_key: &'a [u8],
-    pub signature: &'a [u8],
-    pub sender_cert: &'a [u8],
-    pub provider_info: &'a [u8],
-    pub label: &'a [u8],
-    pub extension: &'a [u8],
-    pub body: &'a [u8],
+/// The numbers of a section's values, which stand first in them and lie as in C.
+#[inline]
+fn numbers(values: &write::SectionValues<'_>) -> SectionValues {
+    // SAFETY: `numbers_first` checks that the values begin with the members of `SectionValues`.
+    unsafe { ptr::from_ref(values).cast::<SectionValues>().read() }
 }
 
-pub(crate) fn write_section(values: SectionValues, parts: SectionParts<'_>, out: &mut [u8]) -> Output {
+#[inline]
+pub(crate) fn write_section(values: &write::SectionValues<'_>, out: &mut [u8]) -> Output {
     // SAFETY: pointers and lengths are those of slices, and `out` is borrowed alone.
     unsafe {
         ugb_write_section(
-            values,
-            parts.correlation_id,
-            parts.sender_id.as_ptr(),
-            parts.sender_id.len(),
-            parts.encryption_key.as_ptr(),
-            parts.encryption_key.len(),
-            parts.signature.as_ptr(),
-            parts.signature.len(),
-            parts.sender_cert.as_ptr(),
-            parts.sender_cert.len(),
-            parts.provider_info.as_ptr(),
-            parts.provider_info.len(),
-            parts.label.as_ptr(),
-            parts.label.len(),
-            parts.extension.as_ptr(),
-            parts.extension.len(),
-            parts.body.as_ptr(),
-            parts.body.len(),
+            numbers(values),
+            &values.correlation_id,
+            values.sender_id.as_ptr(),
+            values.sender_id.len(),
+            values.encryption_key.as_ptr(),
+            values.encryption_key.len(),
+            values.signature.as_ptr(),
+            values.signature.len(),
+            values.sender_cert.as_ptr(),
+            values.sender_cert.len(),
+            values.provider_info.as_ptr(),
+            values.provider_info.len(),
+            values.label.as_ptr(),
+            values.label.len(),
+            values.extension.as_ptr(),
+            values.extension.len(),
+            values.body.as_ptr(),
+            values.body.len(),
             out.as_mut_ptr(),
             out.len(),
         )
     }
 }
 
+#[inline]
 pub(crate) fn read_image(s: &[u8]) -> ImageRead {
     // SAFETY: pointer and length are those of a slice.
     unsafe { ugb_read_image(s.as_ptr(), s.len()) }
 }
 
+#[inline]
 pub(crate) fn write_image(format: QueueFormat, fixed: &[u8], text: &[u8], out: &mut [u8]) -> Output {
     // SAFETY: pointers and lengths are those of slices, and `out` is borrowed alone.
     unsafe {
@@ -343,12 +364,14 @@ pub(crate) struct Number {
 }
 
 impl From<Option<u32>> for Number {
+    #[inline]
     fn from(number: Option<u32>) -> Self {
         Self { given: number.is_some(), number: number.unwrap_or(0) }
     }
 }
 
 impl From<Number> for Option<u32> {
+    #[inline]
     fn from(number: Number) -> Self {
         number.given.then_some(number.number)
     }
@@ -440,7 +463,7 @@ const _: () = {
 
 /// What a request lends beside its numbers.
 pub(crate) struct RequestParts<'a> {
-    pub correlation_id: [u8; 20],
+    pub correlation_id: &'a [u8; 20],
     pub title: &'a [u16],
     pub sender_id: &'a [u8],
     pub encryption_key: &'a [u8],
@@ -496,12 +519,13 @@ extern "C" {
     ) -> Output;
 }
 
+#[inline]
 pub(crate) fn defaulted(request: Request, parts: RequestParts<'_>) -> Defaulted {
     // SAFETY: pointers and lengths are those of slices.
     unsafe {
         ugb_defaulted(
             request,
-            &parts.correlation_id,
+            parts.correlation_id,
             parts.title.as_ptr(),
             parts.title.len(),
             parts.sender_id.as_ptr(),
@@ -522,12 +546,13 @@ pub(crate) fn defaulted(request: Request, parts: RequestParts<'_>) -> Defaulted 
     }
 }
 
+#[inline]
 pub(crate) fn send(request: Request, parts: RequestParts<'_>, out: &mut [u8]) -> Output {
     // SAFETY: pointers and lengths are those of slices, and `out` is borrowed alone.
     unsafe {
         ugb_send(
             request,
-            &parts.correlation_id,
+            parts.correlation_id,
             parts.title.as_ptr(),
             parts.title.len(),
             parts.sender_id.as_ptr(),

@@ -2,6 +2,7 @@
 
 /// The Flags of a SecurityHeader. Only bits 0 to 11 count; reading gives the others as zero.
 #[derive(Debug, Clone, Copy, PartialEq, Eq, Hash, Default)]
+#[repr(transparent)]
 pub struct SecurityFlags(pub u16);
 
 impl SecurityFlags {
@@ -42,6 +43,7 @@ impl SecurityFlags {
 /// The Flags of a MessagePropertiesHeader, which ask for acknowledgments. Only bits 0 to 3 count; reading
 /// gives the others as zero.
 #[derive(Debug, Clone, Copy, PartialEq, Eq, Hash, Default)]
+#[repr(transparent)]
 pub struct PropertiesFlags(pub u8);
 
 impl PropertiesFlags {

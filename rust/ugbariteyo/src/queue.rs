@@ -87,6 +87,7 @@ pub enum Value<'a> {
 
 impl<'a> Value<'a> {
     /// The bytes of the GUID, OBJECTID or MULTICAST_ID, as [`write_image`] takes them.
+    #[inline]
     pub fn fixed(self) -> &'a [u8] {
         match self {
             Self::Nothing | Self::Text(_) => &[],
@@ -97,6 +98,7 @@ impl<'a> Value<'a> {
     }
 
     /// The string; empty where the type has none.
+    #[inline]
     pub fn text(self) -> Text<'a> {
         match self {
             Self::Text(text) | Self::GuidAndText(_, text) => text,
@@ -124,6 +126,7 @@ pub struct Image<'a> {
 /// assert!(matches!(image.value, Value::Text(name) if name.to_string() == "q"));
 /// # Ok::<(), ugbariteyo::Refusal>(())
 /// ```
+#[inline]
 pub fn read_image(input: &[u8]) -> Result<Image<'_>, Refusal> {
     let answer = ffi::read_image(input);
     accepted(answer.refusal)?;
@@ -144,6 +147,7 @@ pub fn read_image(input: &[u8]) -> Result<Image<'_>, Refusal> {
 }
 
 /// The fixed bytes of an accepted value, which are as many as its type has.
+#[inline]
 fn id<const N: usize>(fixed: &[u8]) -> &[u8; N] {
     fixed.try_into().expect("an accepted value has its type's length")
 }
@@ -153,6 +157,7 @@ fn id<const N: usize>(fixed: &[u8]) -> &[u8; N] {
 ///
 /// Refused with 30 to 33, then with 13 where `out` is shorter than the image. A refusal writes nothing, and
 /// bytes of `out` behind the image stay as they were.
+#[inline]
 pub fn write_image(format: QueueFormat, fixed: &[u8], text: &[u8], out: &mut [u8]) -> Result<usize, Refusal> {
     let format = ffi::QueueFormat { kind: format.kind, suffix_and_flags: format.suffix_and_flags };
     ffi::written(ffi::write_image(format, fixed, text, out))

@@ -200,6 +200,7 @@ pub struct Properties<'a> {
 }
 
 impl<'a> Properties<'a> {
+    #[inline]
     fn new(answer: &ffi::Defaulted, request: &Request<'a>) -> Self {
         let properties = &answer.properties;
         let (handling, sender) = (&properties.handling, &properties.sender);
@@ -237,6 +238,7 @@ impl<'a> Properties<'a> {
 }
 
 /// The request's numbers, each with a mark of whether it is there.
+#[inline]
 fn numbers(request: &Request<'_>) -> ffi::Request {
     ffi::Request {
         priority: request.priority.into(),
@@ -265,9 +267,10 @@ fn numbers(request: &Request<'_>) -> ffi::Request {
 }
 
 /// What the request lends beside its numbers.
-fn parts<'a>(request: &Request<'a>) -> ffi::RequestParts<'a> {
+#[inline]
+fn parts<'a>(request: &'a Request<'a>) -> ffi::RequestParts<'a> {
     ffi::RequestParts {
-        correlation_id: request.correlation_id.unwrap_or_default(),
+        correlation_id: request.correlation_id.as_ref().unwrap_or(&[0; 20]),
         title: request.title,
         sender_id: request.sender_id,
         encryption_key: request.encryption_key,
@@ -310,6 +313,7 @@ impl fmt::Debug for Properties<'_> {
 /// assert_eq!(properties.acknowledge, 5);
 /// # Ok::<(), ugbariteyo::Refusal>(())
 /// ```
+#[inline]
 pub fn defaulted<'a>(request: &Request<'a>) -> Result<Properties<'a>, Refusal> {
     let answer = ffi::defaulted(numbers(request), parts(request));
     accepted(answer.refusal)?;
@@ -320,6 +324,7 @@ pub fn defaulted<'a>(request: &Request<'a>) -> Result<Properties<'a>, Refusal> {
 ///
 /// Refused as [`defaulted`] is, then with 13 where `out` is shorter than the section. A refusal writes
 /// nothing, and bytes of `out` behind the section stay as they were.
+#[inline]
 pub fn send(request: &Request<'_>, out: &mut [u8]) -> Result<usize, Refusal> {
     ffi::written(ffi::send(numbers(request), parts(request), out))
 }

@@ -25,12 +25,14 @@ impl Part {
     /// # Panics
     ///
     /// Panics where the part does not lie in `input`: it was read from another one.
+    #[inline]
     pub fn of(self, input: &[u8]) -> &[u8] {
         &input[self.start..self.start + self.length]
     }
 }
 
 impl From<ffi::Part> for Part {
+    #[inline]
     fn from(part: ffi::Part) -> Self {
         Self { start: part.start, length: part.length }
     }
@@ -111,6 +113,7 @@ pub struct Summary<'a> {
 }
 
 impl<'a> Summary<'a> {
+    #[inline]
     fn new(summary: &ffi::Summary, input: &'a [u8]) -> Self {
         let properties = &summary.properties;
         let parts = &summary.parts;
@@ -139,6 +142,7 @@ impl<'a> Summary<'a> {
 }
 
 impl<'a> Security<'a> {
+    #[inline]
     fn new(security: &ffi::SecurityHeader, input: &'a [u8]) -> Self {
         let parts = &security.parts;
         let provider_info = Part::from(parts.provider_info);
@@ -167,161 +171,206 @@ impl<'a> Security<'a> {
 #[derive(Clone, Copy)]
 pub struct Reading<'a> {
     input: &'a [u8],
-    section: ffi::Section,
+    answer: ffi::Reading,
 }
 
 impl<'a> Reading<'a> {
+    #[inline]
     fn part(&self, part: ffi::Part) -> &'a [u8] {
         Part::from(part).of(self.input)
     }
 
+    #[inline]
+    fn security(&self) -> &ffi::SecurityHeader {
+        &self.answer.section.summary.security
+    }
+
+    #[inline]
+    fn properties(&self) -> &ffi::PropertiesFields {
+        &self.answer.section.summary.properties
+    }
+
+    #[inline]
+    fn parts(&self) -> &ffi::PropertiesParts {
+        &self.answer.section.summary.parts
+    }
+
     /// The summary, which holds nothing private.
+    #[inline]
     pub fn summary(&self) -> Summary<'a> {
-        Summary::new(&self.section.summary, self.input)
+        Summary::new(&self.answer.section.summary, self.input)
     }
 
     /// Whether a SecurityHeader stands first.
+    #[inline]
     pub fn security_first(&self) -> bool {
-        self.section.summary.security_first
+        self.answer.section.summary.security_first
     }
 
     /// The section's length, padding included. Bytes behind it were not read.
+    #[inline]
     pub fn section_length(&self) -> usize {
-        self.section.summary.parts.section_length
+        self.parts().section_length
     }
 
     /// The verdict "authentication fails": PrivacyLevel, or HashAlgorithm beside a signature, is none of
     /// those listed.
+    #[inline]
     pub fn authentication_fails(&self) -> bool {
-        self.section.summary.authentication_fails
+        self.answer.section.summary.authentication_fails
     }
 
     /// The verdict "decryption fails": EB is set, and EncryptionAlgorithm is none of those listed.
+    #[inline]
     pub fn decryption_fails(&self) -> bool {
-        self.section.summary.decryption_fails
+        self.answer.section.summary.decryption_fails
     }
 
     /// The SecurityHeader's Flags; zero where there is none.
+    #[inline]
     pub fn security_flags(&self) -> SecurityFlags {
         // only bits 0 to 11 are there
-        SecurityFlags(self.section.summary.security.fields.flags as u16)
+        SecurityFlags(self.security().fields.flags as u16)
     }
 
     /// The identity: a SID for sender kind 1, the GUID of a queue manager for 2.
+    #[inline]
     pub fn sender_id(&self) -> &'a [u8] {
-        self.part(self.section.summary.security.parts.sender_id)
+        self.part(self.security().parts.sender_id)
     }
 
     /// The key.
+    #[inline]
     pub fn encryption_key(&self) -> &'a [u8] {
-        self.part(self.section.summary.security.parts.encryption_key)
+        self.part(self.security().parts.encryption_key)
     }
 
     /// The signature.
+    #[inline]
     pub fn signature(&self) -> &'a [u8] {
-        self.part(self.section.summary.security.parts.signature)
+        self.part(self.security().parts.signature)
     }
 
     /// The certificate.
+    #[inline]
     pub fn sender_cert(&self) -> &'a [u8] {
-        self.part(self.section.summary.security.parts.sender_cert)
+        self.part(self.security().parts.sender_cert)
     }
 
     /// Provider info: a type of 4 bytes and the name, or nothing.
+    #[inline]
     pub fn provider_info(&self) -> &'a [u8] {
-        self.part(self.section.summary.security.parts.provider_info)
+        self.part(self.security().parts.provider_info)
     }
 
     /// The provider's type, where there is provider info.
+    #[inline]
     pub fn provider_type(&self) -> Option<u32> {
-        let security = &self.section.summary.security;
+        let security = self.security();
         (security.parts.provider_info.length != 0).then_some(security.provider_type)
     }
 
     /// The provider's name.
+    #[inline]
     pub fn provider_name(&self) -> Text<'a> {
         Text::new(self.provider_info().get(4..).unwrap_or_default())
     }
 
     /// The properties' Flags.
+    #[inline]
     pub fn flags(&self) -> PropertiesFlags {
-        PropertiesFlags(self.section.summary.properties.flags)
+        PropertiesFlags(self.properties().flags)
     }
 
     /// LabelLength, null included.
+    #[inline]
     pub fn label_length(&self) -> Units {
-        Units(self.section.summary.properties.label_length)
+        Units(self.properties().label_length)
     }
 
     /// MessageClass.
+    #[inline]
     pub fn message_class(&self) -> u16 {
-        self.section.summary.properties.message_class
+        self.properties().message_class
     }
 
     /// CorrelationID.
+    #[inline]
     pub fn correlation_id(&self) -> &'a [u8; 20] {
-        let bytes = self.part(self.section.correlation_id);
+        let bytes = self.part(self.answer.section.correlation_id);
         bytes.try_into().expect("CorrelationID has 20 bytes")
     }
 
     /// BodyType.
+    #[inline]
     pub fn body_type(&self) -> u32 {
-        self.section.summary.properties.body_type
+        self.properties().body_type
     }
 
     /// ApplicationTag.
+    #[inline]
     pub fn application_tag(&self) -> u32 {
-        self.section.application_tag
+        self.answer.section.application_tag
     }
 
     /// MessageSize, in bytes: the length of the body.
+    #[inline]
     pub fn message_size(&self) -> usize {
-        self.section.summary.properties.message_size
+        self.properties().message_size
     }
 
     /// AllocationBodySize, in bytes.
+    #[inline]
     pub fn allocation_body_size(&self) -> usize {
-        self.section.summary.properties.allocation_body_size
+        self.properties().allocation_body_size
     }
 
     /// PrivacyLevel.
+    #[inline]
     pub fn privacy_level(&self) -> u32 {
-        self.section.summary.properties.privacy_level
+        self.properties().privacy_level
     }
 
     /// HashAlgorithm.
+    #[inline]
     pub fn hash_algorithm(&self) -> u32 {
-        self.section.summary.properties.hash_algorithm
+        self.properties().hash_algorithm
     }
 
     /// EncryptionAlgorithm.
+    #[inline]
     pub fn encryption_algorithm(&self) -> u32 {
-        self.section.summary.properties.encryption_algorithm
+        self.properties().encryption_algorithm
     }
 
     /// ExtensionSize, in bytes: the length of the extension.
+    #[inline]
     pub fn extension_size(&self) -> usize {
-        self.section.summary.properties.extension_size
+        self.properties().extension_size
     }
 
     /// The label's bytes, null included; nothing where LabelLength is 0.
+    #[inline]
     pub fn label(&self) -> &'a [u8] {
-        self.part(self.section.summary.parts.label)
+        self.part(self.parts().label)
     }
 
     /// The label as text.
+    #[inline]
     pub fn label_text(&self) -> Text<'a> {
         Text::new(self.label())
     }
 
     /// The extension.
+    #[inline]
     pub fn extension(&self) -> &'a [u8] {
-        self.part(self.section.summary.parts.extension)
+        self.part(self.parts().extension)
     }
 
     /// The body: MessageSize bytes.
+    #[inline]
     pub fn body(&self) -> &'a [u8] {
-        self.part(self.section.summary.parts.body)
+        self.part(self.parts().body)
     }
 
     /// The private values and parts, in their order.
@@ -362,13 +411,20 @@ impl fmt::Debug for Reading<'_> {
 /// assert_eq!(ugbariteyo::read(&[0; 55], false).unwrap_err().number, 1);
 /// # Ok::<(), ugbariteyo::Refusal>(())
 /// ```
+#[inline]
 pub fn read(input: &[u8], security_first: bool) -> Result<Reading<'_>, Refusal> {
-    let answer = ffi::read(input, security_first);
-    accepted(answer.refusal)?;
-    Ok(Reading { input, section: answer.section })
+    // put in its place before it is looked at: an answer that is first accepted would be moved there whole
+    let mut result = Ok(Reading { input, answer: ffi::read(input, security_first) });
+    if let Ok(reading) = &result {
+        if let Err(refusal) = accepted(reading.answer.refusal) {
+            result = Err(refusal);
+        }
+    }
+    result
 }
 
 /// The summary of the section at the start of `input`. Refused as [`read`] is.
+#[inline]
 pub fn summarize(input: &[u8], security_first: bool) -> Result<Summary<'_>, Refusal> {
     let answer = ffi::summarize(input, security_first);
     accepted(answer.refusal)?;
@@ -376,11 +432,13 @@ pub fn summarize(input: &[u8], security_first: bool) -> Result<Summary<'_>, Refu
 }
 
 /// Whether both inputs are accepted and have the same summary: they agree in every judged bit.
+#[inline]
 pub fn same_summary(a: &[u8], b: &[u8], security_first: bool) -> bool {
     ffi::same_summary(a, b, security_first)
 }
 
 /// The label for display, null included, or the stand-in where LabelLength is 0 or reading is refused.
+#[inline]
 pub fn label_shown<'a>(input: &'a [u8], security_first: bool, stand_in: &'a [u8]) -> &'a [u8] {
     let label = ffi::label_shown(input, security_first);
     if label.stand_in {

@@ -8,6 +8,7 @@ pub struct Units(pub u32);
 
 impl Units {
     /// So many units take twice as many bytes.
+    #[inline]
     pub fn bytes(self) -> usize {
         2 * self.0 as usize
     }
@@ -19,16 +20,19 @@ pub struct Text<'a>(&'a [u8]);
 
 impl<'a> Text<'a> {
     /// The text in these bytes. A last odd byte is no unit.
+    #[inline]
     pub fn new(bytes: &'a [u8]) -> Self {
         Self(bytes)
     }
 
     /// The bytes as they lie, null included.
+    #[inline]
     pub fn bytes(self) -> &'a [u8] {
         self.0
     }
 
     /// The units, without the null at the end.
+    #[inline]
     pub fn units(self) -> impl Iterator<Item = u16> + 'a {
         let whole = &self.0[..self.0.len() / 2 * 2];
         let units = whole.strip_suffix(&[0, 0]).unwrap_or(whole);

@@ -10,28 +10,18 @@ use crate::section::{Reading, LIMIT};
 /// The values and parts of a section to write. The sizes are those of the parts.
 ///
 /// Its `Debug` shows no private part.
+// The numbers stand first and lie as in C, so that a call takes them as they are.
 #[derive(Clone, Copy, PartialEq, Eq, Default)]
+#[repr(C)]
 pub struct SectionValues<'a> {
     /// Whether a SecurityHeader stands first. Without one its flags and parts are ignored.
     pub security_first: bool,
     /// The SecurityHeader's Flags. Bits 12 to 15 are written zero.
     pub security_flags: SecurityFlags,
-    /// The identity.
-    pub sender_id: &'a [u8],
-    /// The key, at most 65,535 bytes.
-    pub encryption_key: &'a [u8],
-    /// The signature, at most 65,535 bytes.
-    pub signature: &'a [u8],
-    /// The certificate, at most 65,535 bytes.
-    pub sender_cert: &'a [u8],
-    /// Provider info: a type of 4 bytes and the name with its null, or nothing.
-    pub provider_info: &'a [u8],
     /// The properties' Flags. Bits 4 to 7 are written zero.
     pub flags: PropertiesFlags,
     /// MessageClass.
     pub message_class: u16,
-    /// CorrelationID.
-    pub correlation_id: [u8; 20],
     /// BodyType.
     pub body_type: u32,
     /// ApplicationTag.
@@ -44,6 +34,18 @@ pub struct SectionValues<'a> {
     pub hash_algorithm: u32,
     /// EncryptionAlgorithm.
     pub encryption_algorithm: u32,
+    /// CorrelationID.
+    pub correlation_id: [u8; 20],
+    /// The identity.
+    pub sender_id: &'a [u8],
+    /// The key, at most 65,535 bytes.
+    pub encryption_key: &'a [u8],
+    /// The signature, at most 65,535 bytes.
+    pub signature: &'a [u8],
+    /// The certificate, at most 65,535 bytes.
+    pub sender_cert: &'a [u8],
+    /// Provider info: a type of 4 bytes and the name with its null, or nothing.
+    pub provider_info: &'a [u8],
     /// The label with its null, as [`text_bytes`](crate::text_bytes) gives it, or nothing.
     pub label: &'a [u8],
     /// The extension.
@@ -129,31 +131,9 @@ impl fmt::Debug for SectionValues<'_> {
 /// assert_eq!(SectionValues::from(&section), values);
 /// # Ok::<(), ugbariteyo::Refusal>(())
 /// ```
+#[inline]
 pub fn write_section(values: &SectionValues<'_>, out: &mut [u8]) -> Result<usize, Refusal> {
-    let numbers = ffi::SectionValues {
-        security_first: values.security_first,
-        security_flags: values.security_flags.0,
-        flags: values.flags.0,
-        message_class: values.message_class,
-        body_type: values.body_type,
-        application_tag: values.application_tag,
-        allocation_body_size: values.allocation_body_size,
-        privacy_level: values.privacy_level,
-        hash_algorithm: values.hash_algorithm,
-        encryption_algorithm: values.encryption_algorithm,
-    };
-    let parts = ffi::SectionParts {
-        correlation_id: &values.correlation_id,
-        sender_id: values.sender_id,
-        encryption_key: values.encryption_key,
-        signature: values.signature,
-        sender_cert: values.sender_cert,
-        provider_info: values.provider_info,
-        label: values.label,
-        extension: values.extension,
-        body: values.body,
-    };
-    ffi::written(ffi::write_section(numbers, parts, out))
+    ffi::written(ffi::write_section(values, out))
 }
 
 /// The section of these values in a vector of its own. Refused as [`write_section`] is, but never with 13.

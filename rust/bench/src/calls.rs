@@ -1,69 +1,97 @@
-//! The rows that time calls.
-
-use std::cell::RefCell;
-use std::hint::black_box;
+//! The rows that time calls. What is timed from C and what is tuned answers as the library called from Rust does.
 
 use compare::library::{request as library_request, section_values};
 use ugbariteyo as library;
 
+use crate::c;
+use crate::output::Output;
 use crate::samples::{image, RequestSample, Sample};
-use crate::table::Row;
-use crate::timing::{best, repeated, Repeated};
+use crate::table::Column::{FromC, Library, Memcpy, Memset, PlainRust, TunedC};
+use crate::table::{Column, Row};
+use crate::timing::{taken, Repeated};
 
 /// Reading a section.
 pub fn read(sample: &Sample) -> Row {
-    let section = sample.section();
-    let security_first = sample.values().security_first;
-    let [library, independent] = best([
-        &mut repeated(|| {
-            black_box(&library::read(black_box(&section), security_first));
-        }),
-        &mut repeated(|| {
-            black_box(&independent::read(black_box(&section), security_first));
-        }),
-    ]);
-    Row { what: format!("read, {}", sample.name), bytes: section.len(), library, independent, plain: None }
+    let (section, first) = (sample.section(), sample.security_first);
+    let lent = c::Section::new(&section, first);
+    let calls = vec![
+        (Library, taken(|| library::read(&section, first))),
+        (FromC, from_c(|times| c::read(&lent, &mut [], times))),
+        (PlainRust, taken(|| independent::read(&section, first))),
+        (TunedC, from_c(|times| c::tuned_read(&lent, &mut [], times))),
+    ];
+    Row::timed(format!("read, {}", sample.name), section.len(), calls)
+}
+
+/// The summary of a section; of a summary in Rust, class, label and length are taken.
+pub fn summarize(sample: &Sample) -> Row {
+    let (section, first) = (sample.section(), sample.security_first);
+    let lent = c::Section::new(&section, first);
+    let values = |summary: library::Summary<'_>| {
+        (summary.message_class, summary.label.bytes().len(), summary.section_length)
+    };
+    let calls = vec![
+        (Library, taken(|| library::summarize(&section, first).map(values))),
+        (FromC, from_c(|times| c::summarize(&lent, &mut [], times))),
+    ];
+    Row::timed(format!("summarize, {}", sample.name), section.len(), calls)
 }
 
 /// The same summary of a section and of another that agrees with it.
 pub fn same_summary(sample: &Sample) -> Row {
-    let section = sample.section();
-    let other = section.clone();
-    let security_first = sample.values().security_first;
-    let [library, independent] = best([
-        &mut repeated(|| {
-            black_box(library::same_summary(black_box(&section), black_box(&other), security_first));
-        }),
-        &mut repeated(|| {
-            black_box(independent::same_summary(black_box(&section), black_box(&other), security_first));
-        }),
-    ]);
-    let what = format!("same summary, {}", sample.name);
-    Row { what, bytes: section.len(), library, independent, plain: None }
+    let (section, first) = (sample.section(), sample.security_first);
+    let (other, mut lent_other) = (section.clone(), section.clone());
+    let lent = c::Section::new(&section, first);
+    let calls = vec![
+        (Library, taken(|| library::same_summary(&section, &other, first))),
+        (FromC, from_c(|times| c::same_summary(&lent, &mut lent_other, times))),
+        (PlainRust, taken(|| independent::same_summary(&section, &other, first))),
+    ];
+    Row::timed(format!("same summary, {}", sample.name), section.len(), calls)
 }
+
+/// The label shown of a section.
+pub fn label_shown(sample: &Sample) -> Row {
+    let (section, first) = (sample.section(), sample.security_first);
+    let lent = c::Section::new(&section, first);
+    let calls = vec![
+        (Library, taken(|| library::label_shown(&section, first, STAND_IN))),
+        (FromC, from_c(|times| c::label_shown(&lent, &mut [], times))),
+        (PlainRust, taken(|| independent::label_shown(&section, first, STAND_IN))),
+    ];
+    Row::timed(format!("label shown, {}", sample.name), section.len(), calls)
+}
+
+/// What is shown where there is no label.
+pub const STAND_IN: &[u8] = b"no label";
 
 /// The support copy of a section.
 pub fn support_copy(sample: &Sample) -> Row {
-    let section = sample.section();
-    let security_first = sample.values().security_first;
-    written(
-        format!("support copy, {}", sample.name),
-        section.len(),
-        |out| library::support_copy(black_box(&section), security_first, out).is_ok(),
-        |out| independent::support_copy(black_box(&section), security_first, out).is_ok(),
-    )
+    let (section, first) = (sample.section(), sample.security_first);
+    let lent = c::Section::new(&section, first);
+    let out = Output::new(section.len());
+    let calls = vec![
+        (Library, out.written(|out| library::support_copy(&section, first, out))),
+        (FromC, out.lent(|out, times| c::support_copy(&lent, out, times))),
+        (PlainRust, out.written(|out| independent::support_copy(&section, first, out))),
+        (TunedC, out.lent(|out, times| c::tuned_support_copy(&lent, out, times))),
+    ];
+    written(format!("support copy, {}", sample.name), &out, calls)
 }
 
 /// Writing a section.
 pub fn write_section(sample: &Sample) -> Row {
     let values = sample.values();
-    let lent = section_values(&values);
-    written(
-        format!("write, {}", sample.name),
-        sample.section().len(),
-        |out| library::write_section(black_box(&lent), out).is_ok(),
-        |out| independent::write_section(black_box(&values), out).is_ok(),
-    )
+    let library_values = section_values(&values);
+    let lent = c::Given::new(&library_values);
+    let out = Output::new(sample.section().len());
+    let calls = vec![
+        (Library, out.written(|out| library::write_section(&library_values, out))),
+        (FromC, out.lent(|out, times| c::write_section(&lent, out, times))),
+        (PlainRust, out.written(|out| independent::write_section(&values, out))),
+        (TunedC, out.lent(|out, times| c::tuned_write_section(&lent, out, times))),
+    ];
+    written(format!("write, {}", sample.name), &out, calls)
 }
 
 /// Sending a request.
@@ -71,75 +99,64 @@ pub fn send() -> Row {
     let sample = RequestSample::new();
     let request = sample.request();
     let lent = library_request(&request);
-    let length = independent::request::defaulted(&request).expect("the sample is legal").section_length();
-    written(
-        "send, signed, 40-unit title".into(),
-        length,
-        |out| library::send(black_box(&lent), out).is_ok(),
-        |out| independent::request::send(black_box(&request), out).is_ok(),
-    )
+    let out = Output::new(sample.section().len());
+    let calls = vec![
+        (Library, out.written(|out| library::send(&lent, out))),
+        (FromC, out.lent(|out, times| c::send(&c::Nothing::LENT, out, times))),
+        (PlainRust, out.written(|out| independent::request::send(&request, out))),
+    ];
+    written("send, signed, 40-unit title".into(), &out, calls)
+}
+
+/// The defaulted properties of a request; of the properties in Rust, title and body size are taken.
+pub fn defaulted() -> Row {
+    let sample = RequestSample::new();
+    let request = sample.request();
+    let lent = library_request(&request);
+    let calls = vec![
+        (
+            Library,
+            taken(|| library::defaulted(&lent).map(|values| (values.title.len(), values.message_size))),
+        ),
+        (FromC, from_c(|times| c::defaulted(&c::Nothing::LENT, &mut [], times))),
+        (PlainRust, taken(|| independent::request::defaulted(&request))),
+    ];
+    Row::timed("defaulted, signed, 40-unit title".into(), sample.section().len(), calls)
 }
 
 /// Reading a queue format image.
 pub fn read_image() -> Row {
     let image = image();
-    let [library, independent] = best([
-        &mut repeated(|| {
-            black_box(&library::read_image(black_box(&image)).is_ok());
-        }),
-        &mut repeated(|| {
-            black_box(&independent::queue::read_image(black_box(&image)).is_ok());
-        }),
-    ]);
-    let what = "queue image read, direct name".into();
-    Row { what, bytes: image.len(), library, independent, plain: None }
+    let lent = c::Bytes::from(&image[..]);
+    let calls = vec![
+        (Library, taken(|| library::read_image(&image))),
+        (FromC, from_c(|times| c::read_image(&lent, &mut [], times))),
+        (PlainRust, taken(|| independent::queue::read_image(&image))),
+    ];
+    Row::timed("queue image read, direct name".into(), image.len(), calls)
 }
 
 /// Writing a queue format image.
 pub fn write_image() -> Row {
     let image = image();
+    let lent = c::Bytes::from(&image[..]);
     let format = library::QueueFormat { kind: image[0], suffix_and_flags: image[1] };
     let text = &image[4..];
-    written(
-        "queue image write, direct name".into(),
-        image.len(),
-        |out| library::write_image(black_box(format), &[], black_box(text), out).is_ok(),
-        |out| independent::queue::write_image(image[0], image[1], &[], black_box(text), out).is_ok(),
-    )
+    let out = Output::new(image.len());
+    let calls = vec![
+        (Library, out.written(|out| library::write_image(format, &[], text, out))),
+        (FromC, out.lent(|out, times| c::write_image(&lent, out, times))),
+        (PlainRust, out.written(|out| independent::queue::write_image(image[0], image[1], &[], text, out))),
+    ];
+    written("queue image write, direct name".into(), &out, calls)
 }
 
-/// Times two writers of so many bytes beside memcpy and memset. All write to the same buffer, at the same places in
-/// turn.
-fn written(
-    what: String,
-    bytes: usize,
-    library: impl Fn(&mut [u8]) -> bool,
-    independent: impl Fn(&mut [u8]) -> bool,
-) -> Row {
-    let from = vec![1; bytes];
-    let out = RefCell::new(vec![1; bytes + SKIP * SKIPS]);
-    let [library, independent, memcpy, memset] = best([
-        &mut lent(&out, bytes, |out| assert!(library(out))),
-        &mut lent(&out, bytes, |out| assert!(independent(out))),
-        &mut lent(&out, bytes, |out| out.copy_from_slice(black_box(&from))),
-        &mut lent(&out, bytes, |out| out.fill(black_box(0))),
-    ]);
-    Row { what, bytes, library, independent, plain: Some([memcpy, memset]) }
+fn from_c<'a>(calls: impl FnMut(u64) + 'a) -> Repeated<'a> {
+    Box::new(calls)
 }
 
-/// The bytes between the places of an output, and how many places there are: how two buffers lie to each other counts.
-const SKIP: usize = 64;
-const SKIPS: usize = 16;
-
-/// `call`, to be repeated with bytes of `out` lent to it, at another place in every turn.
-fn lent<'a>(out: &'a RefCell<Vec<u8>>, bytes: usize, call: impl Fn(&mut [u8]) + 'a) -> impl Repeated + 'a {
-    let mut turn = 0;
-    move |times| {
-        turn += 1;
-        let mut out = out.borrow_mut();
-        let out = &mut out[SKIP * (turn % SKIPS)..][..bytes];
-        for _ in 0..times {
-            call(black_box(out));
-        }
-    }
+/// Times writers beside memcpy and memset of as many bytes, to the same output.
+fn written<'a>(what: String, out: &'a Output, mut calls: Vec<(Column, Repeated<'a>)>) -> Row {
+    calls.extend([(Memcpy, out.memcpy()), (Memset, out.memset())]);
+    Row::timed(what, out.length, calls)
 }

@@ -8,7 +8,7 @@ use std::process::{Command, Stdio};
 use std::time::Instant;
 
 use crate::samples::Sample;
-use crate::table::Row;
+use crate::table::{Column, Row};
 
 /// The argument that makes this program list its standard input with the independent library.
 pub const LIST: &str = "list";
@@ -59,7 +59,7 @@ fn timed(program: &Path, file: &Path) -> io::Result<Row> {
     let bytes = fs::metadata(file)?.len() as usize;
     let what = format!("listing program, a record of {RECORDS} ({} MB)", bytes / 1_000_000);
     let [library, independent] = [library, independent].map(|time| time / RECORDS as f64);
-    Ok(Row { what, bytes: bytes / RECORDS, library, independent, plain: None })
+    Ok(Row::new(what, bytes / RECORDS, [(Column::Library, library), (Column::PlainRust, independent)]))
 }
 
 /// The time that a program takes to list the file, in nanoseconds.

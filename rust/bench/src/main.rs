@@ -1,10 +1,16 @@
-//! `bench [DATE]`: times the proved library beside the independent one, and beside memcpy and memset, and prints a
-//! table of ratios. The listing program is the environment's LISTING, else `target/bin/listing` of the repository.
+//! `bench [DATE]` times the proved library beside plain safe Rust, tuned C, memcpy and memset, and prints a table of
+//! ratios. `bench growth [DATE]` prints how the library's times grow with each part of a section, and what refusing
+//! costs. The listing program is the environment's LISTING, else `target/bin/listing` of the repository.
 
-#![forbid(unsafe_code)]
+#![deny(unsafe_code)]
 
+mod agree;
+mod c;
 mod calls;
+mod growth;
 mod listing;
+mod output;
+mod refusals;
 mod samples;
 mod table;
 mod timing;
@@ -16,14 +22,15 @@ use std::{env, fs, io};
 use compare::library::Library;
 use samples::Sample;
 
-/// The body of the longest section without security and label.
-const LONGEST_BODY: usize = 4_194_248;
+/// The argument that asks for the tables of growth.
+const GROWTH: &str = "growth";
 
 fn main() -> ExitCode {
-    let argument = env::args().nth(1);
-    let done = match argument.as_deref() {
-        Some(listing::LIST) => listing::list(),
-        date => bench(date),
+    let arguments: Vec<_> = env::args().skip(1).collect();
+    let done = match arguments.iter().map(String::as_str).collect::<Vec<_>>()[..] {
+        [listing::LIST] => listing::list(),
+        [GROWTH, ref date @ ..] => grow(date.first().copied()),
+        ref date => bench(date.first().copied()),
     };
     match done {
         Ok(()) => ExitCode::SUCCESS,
@@ -37,24 +44,42 @@ fn main() -> ExitCode {
 fn bench(date: Option<&str>) -> io::Result<()> {
     let library = Library::new(None);
     let program = library.listing()?;
-    let date = date.map_or_else(today, str::to_string);
-    println!("{date}, {}; the best of 100 runs of half a millisecond.\n", processor());
-    println!("{}", table::HEADER);
     let samples = [
         Sample::plain("no security, 100-byte body", 100),
         Sample::secured("full security, 250-unit label"),
         Sample::plain("no security, 4 KB body", 4_096),
+        Sample::longest("no security, 4 MB body"),
     ];
-    let longest = Sample::plain("no security, 4 MB body", LONGEST_BODY);
-    samples.iter().for_each(|sample| println!("{}", calls::read(sample)));
-    samples.iter().for_each(|sample| println!("{}", calls::same_summary(sample)));
-    samples.iter().chain([&longest]).for_each(|sample| println!("{}", calls::support_copy(sample)));
-    samples.iter().chain([&longest]).for_each(|sample| println!("{}", calls::write_section(sample)));
+    let short = &samples[..3];
+    agree::check(&samples);
+    print_circumstances(date);
+    println!("{}", table::HEADER);
+    short.iter().for_each(|sample| println!("{}", calls::read(sample)));
+    short.iter().for_each(|sample| println!("{}", calls::summarize(sample)));
+    short.iter().for_each(|sample| println!("{}", calls::same_summary(sample)));
+    short.iter().for_each(|sample| println!("{}", calls::label_shown(sample)));
+    samples.iter().for_each(|sample| println!("{}", calls::support_copy(sample)));
+    samples.iter().for_each(|sample| println!("{}", calls::write_section(sample)));
     println!("{}", calls::send());
+    println!("{}", calls::defaulted());
     println!("{}", calls::read_image());
     println!("{}", calls::write_image());
     println!("{}", listing::row(program)?);
     Ok(())
+}
+
+fn grow(date: Option<&str>) -> io::Result<()> {
+    let samples = Sample::growing();
+    agree::check(&samples);
+    print_circumstances(date);
+    growth::print(&samples);
+    Ok(())
+}
+
+/// When and on what the times are taken, and how.
+fn print_circumstances(date: Option<&str>) {
+    let date = date.map_or_else(today, str::to_string);
+    println!("{date}, {}; the best of 100 runs of half a millisecond.\n", processor());
 }
 
 /// The processor's name.

@@ -4,10 +4,12 @@ use independent::request::Request;
 use independent::SectionValues;
 
 /// Parts of a section, which own their bytes.
+#[derive(Clone, Default)]
 pub struct Sample {
     /// What it is called in the table.
-    pub name: &'static str,
-    security_first: bool,
+    pub name: String,
+    /// Whether a SecurityHeader stands first.
+    pub security_first: bool,
     key: Vec<u8>,
     signature: Vec<u8>,
     certificate: Vec<u8>,
@@ -22,35 +24,56 @@ const SENDER_ID: [u8; 28] =
     [1, 5, 0, 0, 0, 0, 0, 5, 21, 0, 0, 0, 1, 2, 3, 4, 5, 6, 7, 8, 9, 10, 11, 12, 0xF4, 1, 0, 0];
 const PROVIDER_NAME: &str = "Microsoft Base Cryptographic Provider v1.0";
 
+/// Lengths of an extension or a body; the last makes the longest section without security and label.
+const LENGTHS: [(&str, usize); 5] =
+    [("none", 0), ("100 bytes", 100), ("4 KB", 4_096), ("64 KB", 65_536), ("4 MB", 4_194_248)];
+
 impl Sample {
     /// No security, and a body of this length.
-    pub fn plain(name: &'static str, body: usize) -> Self {
-        let [key, signature, certificate, provider_info, label, extension] = Default::default();
-        Self {
-            name,
-            security_first: false,
-            key,
-            signature,
-            certificate,
-            provider_info,
-            label,
-            extension,
-            body: bytes(body),
-        }
+    pub fn plain(name: &str, body: usize) -> Self {
+        Self { name: name.into(), body: bytes(body), ..Self::default() }
     }
 
     /// Every security part, and a label of 250 units.
-    pub fn secured(name: &'static str) -> Self {
+    pub fn secured(name: &str) -> Self {
         Self {
             security_first: true,
             key: bytes(128),
             signature: bytes(128),
             certificate: bytes(1_000),
-            provider_info: [&[1, 0, 0, 0], &text(PROVIDER_NAME)[..]].concat(),
+            provider_info: provider_info(PROVIDER_NAME),
             label: text(&"x".repeat(249)),
             extension: bytes(20),
             ..Self::plain(name, 100)
         }
+    }
+
+    /// The longest section, almost all of it body.
+    pub fn longest(name: &str) -> Self {
+        Self::plain(name, LENGTHS[4].1)
+    }
+
+    /// No security, and a label of so many units, null included; of 0 there is none.
+    pub fn labelled(name: &str, units: usize) -> Self {
+        let label = units.checked_sub(1).map_or_else(Vec::new, |units| text(&"x".repeat(units)));
+        Self { label, ..Self::plain(name, 100) }
+    }
+
+    /// Samples of which one part grows.
+    pub fn growing() -> Vec<Self> {
+        let labels = [0, 10, 50, 250].map(|units| Self::labelled(&format!("label, {units} units"), units));
+        let names = [2, 50, 1_000].map(|units| Self {
+            name: format!("provider name, {units} units"),
+            provider_info: provider_info(&"x".repeat(units - 1)),
+            ..Self::secured("")
+        });
+        let bodies = LENGTHS.map(|(name, length)| Self::plain(&format!("body, {name}"), length));
+        let extensions = LENGTHS.map(|(name, length)| Self {
+            name: format!("extension, {name}"),
+            extension: bytes(length),
+            ..Self::default()
+        });
+        [&labels[..], &names, &bodies, &extensions].concat()
     }
 
     /// What the section writer takes.
@@ -82,10 +105,8 @@ impl Sample {
     pub fn section(&self) -> Vec<u8> {
         let parts = [&self.key, &self.signature, &self.certificate, &self.provider_info];
         let parts = parts.into_iter().chain([&self.label, &self.extension, &self.body]);
-        let mut section = vec![0; 256 + parts.map(Vec::len).sum::<usize>()];
-        let length = independent::write_section(&self.values(), &mut section).expect("the sample is legal");
-        section.truncate(length);
-        section
+        let room = 256 + parts.map(Vec::len).sum::<usize>();
+        written(room, |out| independent::write_section(&self.values(), out))
     }
 }
 
@@ -123,6 +144,11 @@ impl RequestSample {
             ..Request::default()
         }
     }
+
+    /// Its section.
+    pub fn section(&self) -> Vec<u8> {
+        written(1_000, |out| independent::request::send(&self.request(), out))
+    }
 }
 
 /// The image of a direct format name.
@@ -134,7 +160,20 @@ fn bytes(length: usize) -> Vec<u8> {
     (0..length).map(|i| (i % 251) as u8).collect()
 }
 
+/// Provider info: type 1, and this name.
+fn provider_info(name: &str) -> Vec<u8> {
+    [&[1, 0, 0, 0], &text(name)[..]].concat()
+}
+
 /// The bytes of a text with a null added.
 fn text(text: &str) -> Vec<u8> {
     text.encode_utf16().chain([0]).flat_map(u16::to_le_bytes).collect()
+}
+
+/// What a writer puts into so much room.
+fn written<E>(room: usize, write: impl Fn(&mut [u8]) -> Result<usize, E>) -> Vec<u8> {
+    let mut out = vec![0; room];
+    let Ok(length) = write(&mut out) else { panic!("a sample is legal") };
+    out.truncate(length);
+    out
 }

@@ -1,49 +1,64 @@
-//! The rows of the table and how they are printed.
+//! The rows of the main table and how they are printed.
 
 use std::fmt;
 
-/// The times of one thing that both libraries do, in nanoseconds.
-pub struct Row {
-    /// What is done.
-    pub what: String,
-    /// The bytes that are read or written.
-    pub bytes: usize,
-    /// The time of the proved library.
-    pub library: f64,
-    /// The time of the independent library.
-    pub independent: f64,
-    /// The times of memcpy and memset over as many bytes, where that says something.
-    pub plain: Option<[f64; 2]>,
+use crate::timing::{best, Repeated, Time};
+
+/// What a row times: the library, called from Rust through the safe crate and from C; and what it is held against.
+#[derive(Clone, Copy)]
+pub enum Column {
+    Library,
+    FromC,
+    PlainRust,
+    TunedC,
+    Memcpy,
+    Memset,
 }
 
 /// The table's first two lines.
 pub const HEADER: &str = "\
-| what | bytes | library ns | safe Rust ns | library / safe Rust | memcpy ns | library / memcpy | memset ns | library / memset |
-|---|--:|--:|--:|--:|--:|--:|--:|--:|";
+| what | bytes | library ns | library from C ns | plain safe Rust ns | library / it | tuned C ns | library / it | memcpy ns | library / it | memset ns | library / it |
+|---|--:|--:|--:|--:|--:|--:|--:|--:|--:|--:|--:|";
 
-impl fmt::Display for Row {
-    fn fmt(&self, f: &mut fmt::Formatter<'_>) -> fmt::Result {
-        let Self { what, bytes, library, independent, plain } = self;
-        let ratio = library / independent;
-        write!(f, "| {what} | {bytes} | {} | {} | {ratio:.2} |", Time(*library), Time(*independent))?;
-        match plain {
-            Some(times) => {
-                times.iter().try_for_each(|&time| write!(f, " {} | {:.2} |", Time(time), library / time))
-            }
-            None => write!(f, " | | | |"),
-        }
+/// The times of one thing, in nanoseconds.
+pub struct Row {
+    what: String,
+    /// The bytes that are read or written.
+    bytes: usize,
+    times: [Option<f64>; 6],
+}
+
+impl Row {
+    /// The row of these times.
+    pub fn new(what: String, bytes: usize, times: impl IntoIterator<Item = (Column, f64)>) -> Self {
+        let mut row = Self { what, bytes, times: [None; 6] };
+        times.into_iter().for_each(|(column, time)| row.times[column as usize] = Some(time));
+        row
+    }
+
+    /// Times these calls.
+    pub fn timed(what: String, bytes: usize, calls: Vec<(Column, Repeated<'_>)>) -> Self {
+        let (columns, calls): (Vec<_>, Vec<_>) = calls.into_iter().unzip();
+        Self::new(what, bytes, columns.into_iter().zip(best(calls)))
     }
 }
 
-/// A time in nanoseconds, with a digit behind the point where it is short.
-struct Time(f64);
-
-impl fmt::Display for Time {
+impl fmt::Display for Row {
     fn fmt(&self, f: &mut fmt::Formatter<'_>) -> fmt::Result {
-        if self.0 < 100.0 {
-            write!(f, "{:.1}", self.0)
-        } else {
-            write!(f, "{:.0}", self.0)
-        }
+        let [library, from_c, held_against @ ..] = self.times;
+        write!(f, "| {} | {} |", self.what, self.bytes)?;
+        [library, from_c].into_iter().try_for_each(|time| cell(f, time.map(Time)))?;
+        held_against.into_iter().try_for_each(|time| {
+            cell(f, time.map(Time))?;
+            cell(f, library.zip(time).map(|(library, time)| format!("{:.2}", library / time)))
+        })
+    }
+}
+
+/// What there is, and the end of its cell.
+fn cell(f: &mut fmt::Formatter<'_>, what: Option<impl fmt::Display>) -> fmt::Result {
+    match what {
+        Some(what) => write!(f, " {what} |"),
+        None => write!(f, " |"),
     }
 }

@@ -1,0 +1,75 @@
+#include <string.h>
+
+#include "lent.h"
+#include "tuned.h"
+
+/* Answers are compared member by member: the bytes between members hold anything. */
+#define SAME(member) (a->member == b->member)
+#define SAME_BYTES(member) (memcmp(&a->member, &b->member, sizeof a->member) == 0)
+
+static bool same_refusal(const ugb_refusal *a, const ugb_refusal *b)
+{
+    return SAME(number) && SAME(place);
+}
+
+static bool same_security(const ugb_security_header *a, const ugb_security_header *b)
+{
+    return SAME(fields.flags) && SAME(fields.sender_id_size) && SAME(fields.encryption_key_size) &&
+           SAME(fields.signature_size) && SAME(fields.sender_cert_size) && SAME(fields.provider_info_size) &&
+           SAME_BYTES(parts) && SAME(sid_revision) && SAME(sid_sub_authority_count) && SAME(provider_type);
+}
+
+static bool same_properties(const ugb_properties_fields *a, const ugb_properties_fields *b)
+{
+    return SAME(flags) && SAME(label_length) && SAME(message_class) && SAME(body_type) && SAME(message_size) &&
+           SAME(allocation_body_size) && SAME(privacy_level) && SAME(hash_algorithm) && SAME(encryption_algorithm) &&
+           SAME(extension_size);
+}
+
+static bool same_summary(const ugb_summary *a, const ugb_summary *b)
+{
+    return SAME(security_first) && same_security(&a->security, &b->security) &&
+           same_properties(&a->properties, &b->properties) && SAME_BYTES(parts) && SAME(authentication_fails) &&
+           SAME(decryption_fails);
+}
+
+static bool same_reading(const ugb_reading *a, const ugb_reading *b)
+{
+    return same_refusal(&a->refusal, &b->refusal) && same_summary(&a->section.summary, &b->section.summary) &&
+           SAME_BYTES(section.correlation_id) && SAME(section.application_tag);
+}
+
+static bool same_output(const ugb_output *a, const ugb_output *b)
+{
+    return same_refusal(&a->refusal, &b->refusal) && SAME(length);
+}
+
+bool reads_agree(const section *l)
+{
+    ugb_reading library = ugb_read(l->s.first, l->s.length, l->security_first), tuned;
+    tuned_read(&tuned, l->s.first, l->s.length, l->security_first);
+    return same_reading(&library, &tuned);
+}
+
+/* Before the calls both outputs are filled alike, so that a byte that only one of them writes shows. */
+static void fill(uint8_t *out, uint8_t *tuned_out, size_t length)
+{
+    memset(out, 0xA5, length);
+    memset(tuned_out, 0xA5, length);
+}
+
+bool copies_agree(const section *l, uint8_t *out, uint8_t *tuned_out, size_t length)
+{
+    fill(out, tuned_out, length);
+    ugb_output library = ugb_support_copy(l->s.first, l->s.length, l->security_first, out, length);
+    ugb_output tuned = tuned_support_copy(l->s.first, l->s.length, l->security_first, tuned_out, length);
+    return same_output(&library, &tuned) && memcmp(out, tuned_out, length) == 0;
+}
+
+bool writings_agree(const given *l, uint8_t *out, uint8_t *tuned_out, size_t length)
+{
+    fill(out, tuned_out, length);
+    ugb_output library = write_given(ugb_write_section, l, out, length);
+    ugb_output tuned = write_given(tuned_write_section, l, tuned_out, length);
+    return same_output(&library, &tuned) && memcmp(out, tuned_out, length) == 0;
+}

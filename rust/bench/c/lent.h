@@ -1,0 +1,37 @@
+/* What src/c.rs calls. */
+#ifndef LENT_H
+#define LENT_H
+
+#include "given.h"
+
+typedef struct section {
+    bytes s;
+    bool security_first;
+} section;
+
+/* A call with what is lent to it, repeated. */
+#define LOOP_OF(name, lent) void loop_##name(const lent *l, uint8_t *out, size_t out_length, uint64_t times)
+
+/* The library's calls. The other summary is that of the output's bytes; the request is the one of samples.h. */
+LOOP_OF(read, section);
+LOOP_OF(summarize, section);
+LOOP_OF(same_summary, section);
+LOOP_OF(label_shown, section);
+LOOP_OF(support_copy, section);
+LOOP_OF(write_section, given);
+LOOP_OF(send, void);
+LOOP_OF(defaulted, void);
+LOOP_OF(read_image, bytes);
+LOOP_OF(write_image, bytes);
+
+/* The tuned calls. */
+LOOP_OF(tuned_read, section);
+LOOP_OF(tuned_support_copy, section);
+LOOP_OF(tuned_write_section, given);
+
+/* Whether a tuned call answers as the library's, and leaves its output as the library's leaves its. */
+bool reads_agree(const section *l);
+bool copies_agree(const section *l, uint8_t *out, uint8_t *tuned_out, size_t length);
+bool writings_agree(const given *l, uint8_t *out, uint8_t *tuned_out, size_t length);
+
+#endif

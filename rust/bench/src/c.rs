@@ -1,0 +1,169 @@
+//! Calls made from C: the library's and the tuned ones, in loops; and whether the tuned ones answer as the library's.
+//! The only file with unsafe code.
+
+#![allow(unsafe_code)]
+
+use std::ffi::c_void;
+use std::marker::PhantomData;
+use std::ptr;
+
+use ugbariteyo::SectionValues;
+
+/// Bytes that are lent.
+#[repr(C)]
+pub struct Bytes<'a> {
+    first: *const u8,
+    length: usize,
+    lent: PhantomData<&'a [u8]>,
+}
+
+impl<'a> From<&'a [u8]> for Bytes<'a> {
+    fn from(bytes: &'a [u8]) -> Self {
+        Self { first: bytes.as_ptr(), length: bytes.len(), lent: PhantomData }
+    }
+}
+
+/// A section to read.
+#[repr(C)]
+pub struct Section<'a> {
+    bytes: Bytes<'a>,
+    security_first: bool,
+}
+
+impl<'a> Section<'a> {
+    /// The section at the start of `bytes`.
+    pub fn new(bytes: &'a [u8], security_first: bool) -> Self {
+        Self { bytes: bytes.into(), security_first }
+    }
+}
+
+/// What a section is written from.
+#[repr(C)]
+pub struct Given<'a> {
+    /// The numbers stand first in the values, and lie as in C.
+    values: *const c_void,
+    correlation_id: *const u8,
+    parts: [Bytes<'a>; 8],
+}
+
+impl<'a> Given<'a> {
+    /// These values and their parts.
+    pub fn new(values: &'a SectionValues<'a>) -> Self {
+        let parts = [
+            values.sender_id,
+            values.encryption_key,
+            values.signature,
+            values.sender_cert,
+            values.provider_info,
+            values.label,
+            values.extension,
+            values.body,
+        ];
+        Self {
+            values: ptr::from_ref(values).cast(),
+            correlation_id: values.correlation_id.as_ptr(),
+            parts: parts.map(Bytes::from),
+        }
+    }
+}
+
+/// What a call takes that makes its own request.
+#[repr(C)]
+pub struct Nothing(u8);
+
+impl Nothing {
+    /// It.
+    pub const LENT: Self = Self(0);
+}
+
+macro_rules! loops {
+    ($($name:ident($lent:ty) = $symbol:ident;)*) => {
+        extern "C" {
+            $(fn $symbol(lent: &$lent, out: *mut u8, out_length: usize, times: u64);)*
+        }
+        $(
+            /// Makes the call so many times.
+            pub fn $name(lent: &$lent, out: &mut [u8], times: u64) {
+                // SAFETY: what is lent was made from slices, and the output is one that is borrowed alone.
+                unsafe { $symbol(lent, out.as_mut_ptr(), out.len(), times) }
+            }
+        )*
+    };
+}
+
+loops! {
+    read(Section<'_>) = loop_read;
+    summarize(Section<'_>) = loop_summarize;
+    same_summary(Section<'_>) = loop_same_summary;
+    label_shown(Section<'_>) = loop_label_shown;
+    support_copy(Section<'_>) = loop_support_copy;
+    write_section(Given<'_>) = loop_write_section;
+    send(Nothing) = loop_send;
+    defaulted(Nothing) = loop_defaulted;
+    read_image(Bytes<'_>) = loop_read_image;
+    write_image(Bytes<'_>) = loop_write_image;
+    tuned_read(Section<'_>) = loop_tuned_read;
+    tuned_support_copy(Section<'_>) = loop_tuned_support_copy;
+    tuned_write_section(Given<'_>) = loop_tuned_write_section;
+}
+
+extern "C" {
+    fn reads_agree(section: &Section<'_>) -> bool;
+    fn copies_agree(section: &Section<'_>, out: *mut u8, tuned_out: *mut u8, length: usize) -> bool;
+    fn writings_agree(given: &Given<'_>, out: *mut u8, tuned_out: *mut u8, length: usize) -> bool;
+}
+
+impl Section<'_> {
+    /// Whether the tuned reading is the library's, and so is the tuned support copy into outputs of this length.
+    pub fn agrees(&self, length: usize) -> bool {
+        let [mut out, mut tuned_out] = [vec![0; length], vec![0; length]];
+        // SAFETY: as for the loops.
+        unsafe { reads_agree(self) && copies_agree(self, out.as_mut_ptr(), tuned_out.as_mut_ptr(), length) }
+    }
+}
+
+impl Given<'_> {
+    /// Whether the tuned writing into an output of this length is the library's.
+    pub fn agrees(&self, length: usize) -> bool {
+        let [mut out, mut tuned_out] = [vec![0; length], vec![0; length]];
+        // SAFETY: as for the loops.
+        unsafe { writings_agree(self, out.as_mut_ptr(), tuned_out.as_mut_ptr(), length) }
+    }
+}
+
+#[cfg(test)]
+mod tests {
+    use super::{Given, Section};
+    use compare::library::section_values;
+    use independent::generate::{case, section_values as generated_values, Random};
+
+    const CASES: u64 = 20_000;
+
+    #[test]
+    fn tuned_reading_and_copy_agree() {
+        let mut r = Random::new(1);
+        for _ in 0..CASES {
+            let case = case(&mut r);
+            for security_first in [case.security_first, !case.security_first] {
+                let read = independent::read(&case.bytes, security_first);
+                let length = read.map_or(100, |section| section.summary.length);
+                let section = Section::new(&case.bytes, security_first);
+                let agrees = [length + 9, length, length - 1].map(|length| section.agrees(length));
+                assert_eq!(agrees, [true; 3], "security first {security_first}, {:02X?}", case.bytes);
+            }
+        }
+    }
+
+    #[test]
+    fn tuned_writing_agrees() {
+        let mut r = Random::new(2);
+        for _ in 0..CASES {
+            let owned = generated_values(&mut r);
+            let values = owned.as_values();
+            let values = section_values(&values);
+            let given = Given::new(&values);
+            let agrees = [owned.room, owned.length(), owned.length() - 1].map(|length| given.agrees(length));
+            assert_eq!(agrees, [true; 3], "{owned:02X?}");
+        }
+    }
+}

@@ -1,0 +1,63 @@
+/* A section judged: S1 to S11, then P1 to P7. */
+#ifndef SECTION_H
+#define SECTION_H
+
+#include "steps.h"
+
+static inline uint32_t judge_security(const uint8_t *s, size_t s_length, security *x)
+{
+    uint32_t number;
+    if (s_length < SECURITY_FIXED)
+        return UGB_INPUT_SHORT;
+    x->flags = number16(s) & FLAGS_JUDGED;
+    x->size[IDENTITY] = number16(s + 2);
+    x->size[KEY] = number16(s + 4);
+    x->size[SIGNATURE] = number16(s + 6);
+    x->size[CERTIFICATE] = number32(s + 8);
+    x->size[PROVIDER] = number32(s + 12);
+    number = security_steps(x);
+    if (number != UGB_ACCEPTED)
+        return number;
+    if (x->at[SECURITY_PARTS] > s_length)
+        return UGB_INPUT_SHORT;
+    return security_content(x, s + SECURITY_FIXED, s + x->at[PROVIDER]);
+}
+
+static inline uint32_t judge_properties(const uint8_t *s, size_t s_length, properties *x)
+{
+    const uint8_t *header = s + x->at;
+    uint32_t number;
+    if (s_length - x->at < PROPERTIES_FIXED)
+        return UGB_INPUT_SHORT;
+    x->label = 2 * (size_t)header[1];
+    x->class = number16(header + 2);
+    x->body = number32(header + 32);
+    x->allocation = number32(header + 36);
+    x->extension = number32(header + 52);
+    number = properties_steps(x);
+    if (number != UGB_ACCEPTED)
+        return number;
+    if (x->length > s_length)
+        return UGB_INPUT_SHORT;
+    return label_content(x, header + PROPERTIES_FIXED);
+}
+
+/* The refusal, or both headers as the steps leave them; without security the first has no flag and no signature. */
+static inline ugb_refusal judge(const uint8_t *s, size_t s_length, bool security_first, security *first,
+                                properties *second)
+{
+    uint32_t number;
+    first->flags = 0;
+    first->size[SIGNATURE] = 0;
+    second->at = 0;
+    if (security_first) {
+        number = judge_security(s, s_length, first);
+        if (number != UGB_ACCEPTED)
+            return (ugb_refusal){number, 0};
+        second->at = first->at[SECURITY_PARTS];
+    }
+    number = judge_properties(s, s_length, second);
+    return (ugb_refusal){number, number == UGB_ACCEPTED ? 0 : second->at};
+}
+
+#endif

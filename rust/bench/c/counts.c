@@ -1,0 +1,128 @@
+/* The calls that the script `counts` counts. Each is made once, inside `counted`, and then named on standard output
+ * behind the bytes that memcpy, memmove and memset moved for it. */
+#include <stdio.h>
+
+#include "samples.h"
+
+/* ---- What the library calls, by the linker's --wrap */
+
+static size_t moved;
+
+#define WRAPPED(name, type)                                                                                            \
+    void *__real_##name(void *, type, size_t);                                                                         \
+    void *__wrap_##name(void *, type, size_t);                                                                         \
+    void *__wrap_##name(void *to, type from, size_t length)                                                            \
+    {                                                                                                                  \
+        moved += length;                                                                                               \
+        return __real_##name(to, from, length);                                                                        \
+    }
+
+WRAPPED(memcpy, const void *)
+WRAPPED(memmove, const void *)
+WRAPPED(memset, int)
+
+/* ---- The inputs */
+
+enum { ROOM = 8192 };
+
+typedef struct input {
+    const char *name;
+    const given *given; /* what the section is written from */
+    uint8_t s[ROOM];    /* the section */
+    size_t s_length;
+    uint8_t out[ROOM];
+    size_t out_length;
+} input;
+
+static input inputs[] = {
+    {.name = "no security, 100-byte body", .given = &plain_sample, .out_length = ROOM},
+    {.name = "full security, 250-unit label", .given = &secured_sample, .out_length = ROOM},
+    {.name = "no security, 4 KB body", .given = &long_sample, .out_length = ROOM},
+};
+enum { INPUTS = sizeof inputs / sizeof *inputs, SECURED = 1 };
+
+/* ---- The calls */
+
+#define CALL(name, call)                                                                                               \
+    static void name(input *i)                                                                                         \
+    {                                                                                                                  \
+        (void)i;                                                                                                       \
+        call;                                                                                                          \
+    }
+
+#define SECTION i->s, i->s_length
+#define FIRST i->given->values->security_first
+#define OUT i->out, i->out_length
+#define FORMAT ((ugb_queue_format){image_sample.first[0], image_sample.first[1]})
+
+CALL(call_read, ugb_read(SECTION, FIRST))
+CALL(call_summarize, ugb_summarize(SECTION, FIRST))
+CALL(call_same_summary, ugb_same_summary(SECTION, SECTION, FIRST))
+CALL(call_label_shown, ugb_label_shown(SECTION, FIRST))
+CALL(call_support_copy, ugb_support_copy(SECTION, FIRST, OUT))
+CALL(call_write, write_given(ugb_write_section, i->given, OUT))
+CALL(call_send, send_sample(OUT))
+CALL(call_defaulted, defaulted_sample())
+CALL(call_read_image, ugb_read_image(image_sample.first, image_sample.length))
+CALL(call_read_cut_image, ugb_read_image(image_sample.first, image_sample.length - 2))
+CALL(call_write_image, ugb_write_image(FORMAT, NULL, 0, image_sample.first + 4, image_sample.length - 4, OUT))
+
+typedef void call(input *i);
+
+/* What happens in here is counted. */
+__attribute__((noipa)) static void counted(call *call, input *i)
+{
+    call(i);
+}
+
+static void count(const char *what, const char *of, call *call, input *i)
+{
+    moved = 0;
+    counted(call, i);
+    printf("%zu %s, %s\n", moved, what, of);
+}
+
+static void count_sections(const char *what, call *call)
+{
+    for (int i = 0; i < INPUTS; i++)
+        count(what, inputs[i].name, call, &inputs[i]);
+}
+
+/* A byte of the secured section is made wrong and right again. */
+static void count_refused(const char *what, size_t at, uint8_t wrong)
+{
+    uint8_t *byte = &inputs[SECURED].s[at], right = *byte;
+    *byte = wrong;
+    count("read, refused", what, call_read, &inputs[SECURED]);
+    *byte = right;
+}
+
+int main(void)
+{
+    input *secured = &inputs[SECURED];
+    for (int i = 0; i < INPUTS; i++)
+        inputs[i].s_length = write_given(ugb_write_section, inputs[i].given, inputs[i].s, ROOM).length;
+
+    count_sections("read", call_read);
+    count_sections("summarize", call_summarize);
+    count_sections("same summary", call_same_summary);
+    count_sections("label shown", call_label_shown);
+    count_sections("support copy", call_support_copy);
+    count_sections("write", call_write);
+    count("send", "signed, 40-unit title", call_send, secured);
+    count("defaulted", "signed, 40-unit title", call_defaulted, secured);
+    count("queue image read", "direct name", call_read_image, secured);
+    count("queue image write", "direct name", call_write_image, secured);
+
+    size_t properties = ugb_summarize(secured->s, secured->s_length, true).summary.security.parts.length;
+    count_refused("S2, sender kind", 0, 0xA3);
+    count_refused("S11, last unit of the name", properties - 4, 1);
+    count_refused("P3, class", properties + 2, 8);
+    count_refused("P7, last unit of the label", properties + 56 + 498, 1);
+    count("queue image read, refused", "last unit of the name", call_read_cut_image, secured);
+    secured->out_length = 0;
+    count("support copy, refused", "output short", call_support_copy, secured);
+    count("write, refused", "output short", call_write, secured);
+    count("send, refused", "output short", call_send, secured);
+    return 0;
+}

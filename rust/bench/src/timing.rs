@@ -57,7 +57,9 @@ fn deeper<const BYTES: usize>(call: &mut Repeated<'_>, times: u64) -> f64 {
     elapsed
 }
 
+/// The time of so many calls, after one that finds the caches as the turn before left them.
 fn elapsed(call: &mut Repeated<'_>, times: u64) -> f64 {
+    call(1);
     let start = Instant::now();
     call(times);
     start.elapsed().as_nanos() as f64

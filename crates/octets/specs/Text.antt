@@ -1,5 +1,5 @@
 -- Text of 16-bit units.
-use Prim.Native.Nat.{ℕ, _+_, _*_, _%_}
+use Prim.Native.Nat.{ℕ, suc, _+_, _*_, _%_}
 use mathlib.Core.List.{List, [], _∷_, _++_}
 use mathlib.Core.Bool.{Bool, false, not, _&&_, cond}
 use lib.ListN.{length}
@@ -26,6 +26,11 @@ lastOnly (u ∷ v ∷ us) = not (eqb u 0) && lastOnly (v ∷ us)
 -- 01: "16-bit units of which only the last is zero"
 unfoldable pub isText : List ℕ → Bool
 isText s = eqb (length s % 2) 0 && lastOnly (units s)
+
+-- how many units stand before the first zero unit: all of them where none is zero
+unfoldable pub firstZero : List ℕ → ℕ
+firstZero [] = 0
+firstZero (u ∷ us) = cond (eqb u 0) 0 (suc (firstZero us))
 
 -- how many units are zero
 unfoldable pub zeros : List ℕ → ℕ

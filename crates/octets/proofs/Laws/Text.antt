@@ -1,17 +1,17 @@
--- Text of 16-bit units: the rule by counting.
+-- Text of 16-bit units: the rule by the first zero unit, and by counting.
 use Prim.Native.Nat.{ℕ, zero, suc, _+_, _*_, _-_, _/_, _%_, _≤_, _<_}
 use mathlib.Core.Path.{_≡_, refl, sym, ap, _∙_}
 use mathlib.Core.List.{List, [], _∷_, _++_}
-use mathlib.Core.Bool.{Bool, true, false, _&&_, cond}
+use mathlib.Core.Bool.{Bool, true, false, _&&_, _||_, cond}
 use native.Mathlib.Nat.{zero-add, add-zero, suc-add, mul-suc}
 use native.Mathlib.Numerals.{add-two, sub-one}
 use native.Mathlib.Omega.{arith}
-use borrow.Author.Tests.{eq-eqb, ne-eqb}
+use borrow.Author.Tests.{eq-eqb, le-ltb, lt-ltb, ne-eqb}
 use lib.ListN.{length, getD, take, drop}
 use lib.Seq.{take-nil, take-suc, drop-nil}
-use lib.Dec.{eqb, eqb·suc-zero}
+use lib.Dec.{eqb, ltb, eqb·suc-zero, eqb·suc-suc, leb·suc-zero, leb·suc-suc}
 use Rattle.octets.specs.Number.{le}
-use Rattle.octets.specs.Text.{units, lastOnly, isText, zeros}
+use Rattle.octets.specs.Text.{units, lastOnly, firstZero, isText, zeros}
 
 pub length-units : (s : List ℕ) → length (units s) ≡ length s / 2
 unfolding units
@@ -26,6 +26,49 @@ getD-units [] i h = omega arith
 getD-units (a ∷ []) i h = omega arith
 getD-units (a ∷ b ∷ s) zero h = omega arith
 getD-units (a ∷ b ∷ s) (suc i) h = simp mul-suc (simp add-two (getD-units s i (omega arith)))
+
+-- the first zero unit is zero
+pub getD-firstZero : (us : List ℕ) → firstZero us < length us → getD us (firstZero us) 0 ≡ 0
+unfolding firstZero
+getD-firstZero [] h = refl
+getD-firstZero (zero ∷ us) h = refl
+getD-firstZero (suc u ∷ us) h = simp eqb·suc-zero (getD-firstZero us (omega (arith, simp eqb·suc-zero at h)))
+
+-- and none before it is
+pub firstZero-le : (us : List ℕ) (i : ℕ) → i < length us → getD us i 0 ≡ 0 → firstZero us ≤ i
+unfolding firstZero
+firstZero-le [] i h e = omega arith
+firstZero-le (zero ∷ us) i h e = omega arith
+firstZero-le (suc u ∷ us) zero h e = omega arith
+firstZero-le (suc u ∷ us) (suc i) h e = simp eqb·suc-zero (omega (arith, firstZero-le us i (omega arith) e))
+
+-- the last and no other unit is zero exactly where all the others stand before the first zero unit
+pub lastOnly-firstZero : (us : List ℕ) → lastOnly us ≡ eqb (suc (firstZero us)) (length us)
+unfolding lastOnly firstZero
+lastOnly-firstZero [] = refl
+lastOnly-firstZero (zero ∷ []) = refl
+lastOnly-firstZero (suc u ∷ []) = simp eqb·suc-zero
+lastOnly-firstZero (zero ∷ v ∷ us) = sym (ne-eqb 1 (suc (suc (length us))) (λ e. omega arith))
+lastOnly-firstZero (suc u ∷ v ∷ us) = simp (eqb·suc-zero, eqb·suc-suc) (simp eqb·suc-suc at (lastOnly-firstZero (v ∷ us)))
+
+-- one unit more
+pub firstZero-suc : (us : List ℕ) (i : ℕ) → i < length us
+    → (ltb (firstZero us) i || eqb (getD us i 0) 0) ≡ ltb (firstZero us) (suc i)
+unfolding firstZero
+firstZero-suc [] i h = absurd (omega arith)
+firstZero-suc (zero ∷ us) zero h = refl
+firstZero-suc (zero ∷ us) (suc i) h = rw (lt-ltb 0 (suc i) (omega arith), lt-ltb 0 (suc (suc i)) (omega arith))
+firstZero-suc (suc u ∷ us) zero h = rw (eqb·suc-zero, leb·suc-zero, le-ltb (suc (firstZero us)) 1 (omega arith))
+firstZero-suc (suc u ∷ us) (suc i) h = simp (eqb·suc-zero, leb·suc-suc) (simp leb·suc-suc at (firstZero-suc us i (omega arith)))
+
+-- the units behind others of which none is zero
+pub firstZero-drop : (us : List ℕ) (i n : ℕ) → i ≤ firstZero us
+    → ltb (firstZero (drop i us)) n ≡ ltb (firstZero us) (i + n)
+unfolding firstZero
+firstZero-drop us zero n h = rw (zero-add n)
+firstZero-drop [] (suc i) n h = absurd (omega arith)
+firstZero-drop (zero ∷ us) (suc i) n h = absurd (omega arith)
+firstZero-drop (suc u ∷ us) (suc i) n h = simp (eqb·suc-zero, suc-add, leb·suc-suc) (firstZero-drop us i n (omega (arith, simp eqb·suc-zero at h)))
 
 zeros-append : (us vs : List ℕ) → zeros (us ++ vs) ≡ zeros us + zeros vs
 unfolding zeros

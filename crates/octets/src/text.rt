@@ -1,38 +1,46 @@
 // Text of 16-bit units, of which the last and no other is zero.
+use crate::count::Bytes;
+use crate::number::u16_at;
+use crate::number::u16_of;
 ghost use mathlib.Core.Path.{_≡_};
-ghost use Prim.Native.Nat.{_*_, _≤_};
-ghost use lib.Dec.{eqb};
-ghost use lib.ListN.{length, take};
-ghost use Rattle.octets.specs.Text.{isText, zeros, units};
+ghost use Prim.Native.Nat.{_/_, _%_, _≤_};
+ghost use lib.Dec.{ltb};
+ghost use lib.ListN.{length};
+ghost use Rattle.octets.specs.Text.{firstZero, isText, units};
 
-// Whether none of the first `end` units is zero. No early exit and no count, so that the loop becomes vector code
-// of 16-bit lanes.
-fn no_zero(s: &[u8], end: usize) -> bool
-    requires { ⌜ 2 * end ≤ length (now s) ⌝ }
-    ensures { λ r. ⌜ r ≡ eqb (zeros (take end (units (now (s .entry))))) 0 ⌝ }
+// Whether a zero unit stands before `end`. No early exit, so that the loop, whose index counts units, becomes vector
+// code of 16-bit lanes.
+fn has_zero(s: &[u8], end: Bytes) -> bool
+    requires { ⌜ end .0 ≤ length (now s) ⌝ }
+    ensures { λ r. ⌜ r ≡ ltb (firstZero (units (now (s .entry)))) (end .0 / 2) ⌝ }
 {
-    let mut none = true;
+    let n = end.0 / 2;
+    let mut zero = false;
     let mut i = 0;
-    while i < end {
-        let unit = s[2 * i] as u16 + 256 * (s[2 * i + 1] as u16);
-        none &= unit != 0;
+    while i < n {
+        zero |= u16_of(s[2 * i], s[2 * i + 1]) == 0;
         i += 1;
     }
-    none
+    zero
 }
 
-// The same, for a long text by whole blocks of 16 units and the last 16 once more, so that no loop is left for the rest.
-fn no_zero_in(s: &[u8], end: usize) -> bool
-    requires { ⌜ 2 * end ≤ length (now s) ⌝ }
-    ensures { λ r. ⌜ r ≡ eqb (zeros (take end (units (now (s .entry))))) 0 ⌝ }
+// The bytes of 16 units.
+const BLOCK: usize = 32;
+
+// The same, for a long text by whole blocks and the last block once more, so that no loop is left for the rest.
+fn has_zero_in(s: &[u8], end: Bytes) -> bool
+    requires { ⌜ end .0 ≤ length (now s) ⌝ }
+    requires { ⌜ end .0 % 2 ≡ 0 ⌝ }
+    ensures { λ r. ⌜ r ≡ ltb (firstZero (units (now (s .entry)))) (end .0 / 2) ⌝ }
 {
-    if end < 16 {
-        return no_zero(s, end);
+    if end.0 < BLOCK {
+        return has_zero(s, end);
     }
-    let from = 2 * (end - 16);
-    let whole = no_zero(s, end / 16 * 16);
-    let last = no_zero(&s[from..], 16);
-    whole & last
+    if has_zero(s, Bytes(end.0 / BLOCK * BLOCK)) {
+        return true;
+    }
+    let last = end.0 - BLOCK;
+    has_zero(&s[last..], Bytes(BLOCK))
 }
 
 // Whether the bytes are 16-bit units of which the last and no other is zero.
@@ -40,17 +48,15 @@ pub fn is_text(s: &[u8]) -> bool
     ensures { λ r. ⌜ r ≡ isText (now (s .entry)) ⌝ }
 {
     let n = s.len();
+    if n < 2 {
+        return false;
+    }
     if n % 2 != 0 {
         return false;
     }
-    if n == 0 {
+    let last = Bytes(n - 2);
+    if u16_at(s, last) != 0 {
         return false;
     }
-    if s[n - 2] != 0 {
-        return false;
-    }
-    if s[n - 1] != 0 {
-        return false;
-    }
-    no_zero_in(s, n / 2 - 1)
+    !has_zero_in(s, last)
 }

@@ -1,10 +1,10 @@
-// Little-endian numbers: of single bytes, and in a slice. In a slice a byte past the end counts as 0, so that every
-// offset has an answer.
+// Little-endian numbers: of single bytes, as bytes, and in a slice. In a slice a byte past the end counts as 0, so that
+// every offset has an answer.
 use crate::count::Bytes;
 ghost use mathlib.Core.Path.{_≡_};
 ghost use mathlib.Core.List.{[], _∷_};
 ghost use lib.ListN.{getD};
-ghost use Rattle.octets.specs.Number.{le};
+ghost use Rattle.octets.specs.Number.{le, toLe};
 
 pub fn u16_of(a: u8, b: u8) -> u16
     ensures { λ r. ⌜ r ≡ le 2 (a ∷ b ∷ []) 0 ⌝ }
@@ -16,6 +16,20 @@ pub fn u32_of(a: u8, b: u8, c: u8, d: u8) -> u32
     ensures { λ r. ⌜ r ≡ le 4 (a ∷ b ∷ c ∷ d ∷ []) 0 ⌝ }
 {
     u16_of(a, b) as u32 + 65536 * (u16_of(c, d) as u32)
+}
+
+pub fn u16_bytes(n: u16) -> [u8; 2]
+    ensures { λ r. ⌜ r ≡ toLe 2 n ⌝ }
+{
+    [(n % 256) as u8, (n / 256) as u8]
+}
+
+pub fn u32_bytes(n: u32) -> [u8; 4]
+    ensures { λ r. ⌜ r ≡ toLe 4 n ⌝ }
+{
+    let low = u16_bytes((n % 65536) as u16);
+    let high = u16_bytes((n / 65536) as u16);
+    [low[0], low[1], high[0], high[1]]
 }
 
 pub fn u8_at(s: &[u8], at: Bytes) -> u8

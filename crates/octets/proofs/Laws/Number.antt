@@ -2,7 +2,8 @@
 use Prim.Native.Nat.{ℕ, zero, suc, _+_, _*_, _/_, _%_, _^_, _≤_, _<_}
 use mathlib.Core.Path.{_≡_, refl, ap}
 use mathlib.Core.List.{List, [], _∷_, _++_}
-use native.Mathlib.Nat.{pow-suc, add-zero, zero-add, suc-add, add-assoc, mul-assoc, mul-comm}
+use native.Mathlib.Nat.{pow-zero, pow-suc, add-zero, zero-add, suc-add, add-assoc, mul-assoc, mul-comm, div-one, div-div-eq-div-mul}
+use lib.Arith.{mod-mul}
 use native.Mathlib.Omega.{arith}
 use lib.ListN.{length, getD, take, drop, List·getD-eq-default}
 use lib.Seq.{getD-drop, getD-append-add, drop-cons}
@@ -75,6 +76,27 @@ pub length-toLe : (w n : ℕ) → length (toLe w n) ≡ w
 unfolding toLe
 length-toLe zero n = refl
 length-toLe (suc w) n = ap suc (length-toLe w (n / 256))
+
+-- the bytes of a number in v + w bytes are those in v, and those of the rest of it in w behind them
+pub toLe-add : (v w n : ℕ) → toLe (v + w) n ≡ toLe v n ++ toLe w (n / 256 ^ v)
+unfolding toLe
+toLe-add zero w n = rw (zero-add w, pow-zero 256, div-one n)
+toLe-add (suc v) w n =
+    rw (suc-add v w, toLe-add v w (n / 256), div-div-eq-div-mul n 256 (256 ^ v), mul-comm 256 (256 ^ v), ← pow-suc 256 v)
+
+pow-pos : (w : ℕ) → 0 < 256 ^ w
+pow-pos zero = omega arith
+pow-pos (suc w) = omega (arith, pow-pos w, pow-suc 256 w)
+
+-- what does not fit in the bytes is cut off
+pub toLe-mod : (w n : ℕ) → toLe w (n % 256 ^ w) ≡ toLe w n
+unfolding toLe
+toLe-mod zero n = refl
+toLe-mod (suc w) n =
+    let e : n % 256 ^ suc w ≡ n / 256 % 256 ^ w * 256 + n % 256 = rw (pow-suc 256 w) (mod-mul n (pow-pos w) (omega arith)) in
+    let low : n % 256 ^ suc w % 256 ≡ n % 256 = omega arith in
+    let high : n % 256 ^ suc w / 256 ≡ n / 256 % 256 ^ w = omega arith in
+    rw (low, high, toLe-mod w (n / 256))
 
 -- a number that fits in its bytes is read from them again
 pub le-toLe : (w n : ℕ) → n < 256 ^ w → le w (toLe w n) 0 ≡ n

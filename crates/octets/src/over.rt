@@ -1,17 +1,24 @@
-// Bytes written over a lent output. Plain byte loops, so that they become memory moves and fills.
+// Bytes written over a lent output.
+use crate::count::Bytes;
 ghost use mathlib.Core.Path.{_≡_};
+ghost use Prim.Native.Nat.{min};
 ghost use lib.ListN.{length, replicate};
 ghost use Rattle.octets.specs.Over.{copied};
 
-// Over the output's first bytes, as many as both hold.
-pub fn copy(s: &[u8], out: &mut [u8])
+fn smaller(a: Bytes, b: Bytes) -> Bytes
+    ensures { λ r. ⌜ r .0 ≡ min (a .0) (b .0) ⌝ }
+{
+    if a.0 < b.0 {
+        return a;
+    }
+    b
+}
+
+// Over the output's first bytes, as many as both hold, one by one.
+fn copy_bytes(s: &[u8], out: &mut [u8])
     ensures { λ _. ⌜ now (out .exit) ≡ copied (now (s .entry)) (now (out .entry)) ⌝ }
 {
-    let n = if s.len() < out.len() {
-        s.len()
-    } else {
-        out.len()
-    };
+    let n = smaller(Bytes(s.len()), Bytes(out.len())).0;
     let mut i = 0;
     while i < n {
         out[i] = s[i];
@@ -20,28 +27,53 @@ pub fn copy(s: &[u8], out: &mut [u8])
 }
 
 // A whole block, by way of an array that shares no byte with either, so that it becomes a memory move.
-fn copy_block(s: &[u8], out: &mut [u8])
+fn copy_16(s: &[u8], out: &mut [u8])
+    requires { ⌜ length (now s) ≡ 16 ⌝ }
+    requires { ⌜ length (now out) ≡ 16 ⌝ }
+    ensures { λ _. ⌜ now (out .exit) ≡ now (s .entry) ⌝ }
+{
+    let mut block = [0u8; 16];
+    copy_bytes(s, &mut block);
+    copy_bytes(&block, out);
+}
+
+fn copy_1024(s: &[u8], out: &mut [u8])
     requires { ⌜ length (now s) ≡ 1024 ⌝ }
     requires { ⌜ length (now out) ≡ 1024 ⌝ }
     ensures { λ _. ⌜ now (out .exit) ≡ now (s .entry) ⌝ }
 {
     let mut block = [0u8; 1024];
-    copy(s, &mut block);
-    copy(&block, out);
+    copy_bytes(s, &mut block);
+    copy_bytes(&block, out);
 }
 
-// The same as `copy`, for many bytes.
+// Over the output's first bytes, as many as both hold: by whole blocks and the last block once more, so that no loop is
+// left for the rest.
+pub fn copy(s: &[u8], out: &mut [u8])
+    ensures { λ _. ⌜ now (out .exit) ≡ copied (now (s .entry)) (now (out .entry)) ⌝ }
+{
+    let n = smaller(Bytes(s.len()), Bytes(out.len())).0;
+    if n < 16 {
+        copy_bytes(s, out);
+        return;
+    }
+    let mut i = 0;
+    while 16 <= n - i {
+        copy_16(&s[i..i + 16], &mut out[i..i + 16]);
+        i += 16;
+    }
+    let last = n - 16;
+    copy_16(&s[last..n], &mut out[last..n]);
+}
+
+// The same, for many bytes.
 pub fn copy_long(s: &[u8], out: &mut [u8])
     ensures { λ _. ⌜ now (out .exit) ≡ copied (now (s .entry)) (now (out .entry)) ⌝ }
 {
-    let n = if s.len() < out.len() {
-        s.len()
-    } else {
-        out.len()
-    };
+    let n = smaller(Bytes(s.len()), Bytes(out.len())).0;
     let mut i = 0;
     while 1024 <= n - i {
-        copy_block(&s[i..i + 1024], &mut out[i..i + 1024]);
+        copy_1024(&s[i..i + 1024], &mut out[i..i + 1024]);
         i += 1024;
     }
     copy(&s[i..n], &mut out[i..n]);

@@ -1,12 +1,15 @@
 -- Bytes written over an output: byte by byte, and one part after the other.
-use Prim.Native.Nat.{ℕ, suc, _+_, _-_, _≤_, _<_}
-use mathlib.Core.Path.{_≡_, refl, sym, ap, subst, _∙_}
+use Prim.Native.Nat.{ℕ, suc, _+_, _-_, _≤_, _<_, min}
+use borrow.Author.Tests.{ltb-false, ltb-true}
+use lib.Dec.{ltb}
+use mathlib.Core.Bool.{Bool, true, false}
+use mathlib.Core.Path.{_≡_, refl, sym, ap, _∙_}
 use mathlib.Core.List.{List, [], _∷_, _++_, append-assoc, append-nil}
 use native.Mathlib.Nat.{add-assoc, zero-add}
 use native.Mathlib.Numerals.{add-one}
 use native.Mathlib.Omega.{arith}
 use lib.ListN.{length, getD, take, drop, set, replicate, length-append, length-drop, length-replicate, replicate-append-replicate, take-append-drop}
-use lib.Seq.{append-snoc, length-take-le, take-add, take-all, take-at, take-suc, drop-at, drop-cons, drop-drop, drop-length, set-at, set-split}
+use lib.Seq.{append-snoc, length-take-le, take-add, take-all, take-append-le, take-at, take-suc, take-take, drop-at, drop-append-add, drop-cons, drop-drop, drop-length, set-at, set-split}
 use Rattle.octets.proofs.Laws.Part.{rest-drop}
 use Rattle.octets.specs.Over.{over, overAt, copied}
 
@@ -83,9 +86,27 @@ pub copied-fits : (s out : List ℕ) → length s ≤ length out → copied s ou
 unfolding copied
 copied-fits s out h = rw (take-all (length out) s h)
 
+-- as many bytes as both hold
+pub copied-both : (n : ℕ) (s out : List ℕ) → n ≡ min (length s) (length out) → over (take n s) out ≡ copied s out
+unfolding copied
+copied-both n s out e = go (ltb (length s) (length out)) refl
+  where
+    same : take n s ≡ take (length out) s → over (take n s) out ≡ over (take (length out) s) out
+    same p = rw p
+
+    go : (b : Bool) → ltb (length s) (length out) ≡ b → over (take n s) out ≡ over (take (length out) s) out
+    go true h = let l = ltb-true (length s) (length out) h in same (take-all n s (omega arith) ∙ sym (take-all (length out) s (omega arith)))
+    go false h = let l = ltb-false (length s) (length out) h in let m : n ≡ length out = omega arith in rw m
+
 -- and where the output holds no more, it is what the output then holds
 pub copied-whole : (s out : List ℕ) → length s ≡ length out → copied s out ≡ s
 copied-whole s out e = copied-fits s out (omega arith) ∙ over-whole s out e
+
+-- by way of an array as long as both
+pub copied-through : (n : ℕ) (s out : List ℕ) → length s ≡ n → length out ≡ n → copied (copied s (replicate n 0)) out ≡ s
+copied-through n s out a b =
+    ap (λ (x : List ℕ). copied x out) (copied-whole s (replicate n 0) (a ∙ sym (length-replicate {A = ℕ} n 0)))
+    ∙ copied-whole s out (a ∙ sym b)
 
 -- a lent part of n bytes from an offset: what it then holds is written from there on
 module _ (at n : ℕ) (out : List ℕ) (h : at + n ≤ length out) where
@@ -177,22 +198,28 @@ pub written-take : {p out : List ℕ} {end : ℕ} {now : List ℕ} → Written p
 unfolding over
 written-take {p} {out} {end} w = ap (take end) (w .bytes) ∙ take-at p (drop (length p) out) end (w .ends)
 
--- the next k bytes of a part, through a lent part of as many
-pub written-block : {out now : List ℕ} (s : List ℕ) (i n k : ℕ) (later : List ℕ) → Written (take i s) out i now
-    → i ≤ n → n ≤ length s → n ≤ length out → k ≡ n - i → later ≡ take k (drop i s)
-    → Written (take n s) out n (take i now ++ (later ++ drop k (drop i now)))
-unfolding over overAt
-written-block {out} {now} s i n k later w a b o e l =
-    let q = take k (drop i s) in
-    let lq : length q ≡ k = length-take-le k (drop i s) (rw length-drop (omega arith)) in
-    let put : take i now ++ (later ++ drop k (drop i now)) ≡ overAt i q now = rw (l, lq) in
-    let end : i + k ≡ n = omega arith in
-    let whole : take i s ++ q ≡ take n s = sym (take-add i k s) ∙ ap (λ (m : ℕ). take m s) end in
-    let r = written-next i k q w refl lq put in
-    record {
-      ends = length-take-le n s b;
-      bytes = r .bytes ∙ ap (λ (p : List ℕ). over p out) whole;
-    }
+-- the next bytes of a part, through a lent part of k, which may begin before them
+pub written-block : {out now : List ℕ} (s : List ℕ) (i j n k : ℕ) (later : List ℕ) → Written (take i s) out i now
+    → j ≤ i → i ≤ n → n ≤ length s → k ≡ n - j → later ≡ take k (drop j s)
+    → Written (take n s) out n (take j now ++ (later ++ drop k (drop j now)))
+unfolding over
+written-block {out} {now} s i j n k later w a b o e l =
+    let split : now ≡ take i s ++ drop i out = w .bytes ∙ ap (λ (m : ℕ). take i s ++ drop m out) (w .ends) in
+    let front : take j now ≡ take j s =
+    ap (take j) split ∙ take-append-le j (take i s) (drop i out) (omega (arith, w .ends)) ∙ take-take j i s a in
+    let end : j + k ≡ n = omega arith in
+    let at : j + k ≡ length (take i s) + (n - i) = omega (arith, w .ends) in
+    let end' : i + (n - i) ≡ n = omega arith in
+    let rest : drop k (drop j now) ≡ drop n out =
+    drop-drop k j now
+    ∙ ap (λ (m : ℕ). drop m now) at
+    ∙ ap (drop (length (take i s) + (n - i))) split
+    ∙ drop-append-add (take i s) (drop i out) (n - i)
+    ∙ drop-drop (n - i) i out
+    ∙ ap (λ (m : ℕ). drop m out) end' in
+    let whole : take j s ++ take k (drop j s) ≡ take n s = sym (take-add j k s) ∙ ap (λ (m : ℕ). take m s) end in
+    let ends : length (take n s) ≡ n = length-take-le n s o in
+    record { ends = ends; bytes = rw (l, front, rest, ← append-assoc (take j s) (take k (drop j s)) (drop n out), whole, ends) }
 
 -- and the last, where they are copied
 pub written-last : {out now : List ℕ} (s : List ℕ) (i n : ℕ) (later : List ℕ) → Written (take i s) out i now
@@ -202,4 +229,4 @@ pub written-last : {out now : List ℕ} (s : List ℕ) (i n : ℕ) (later : List
 written-last {out} {now} s i n later w a b o m l =
     let p : length (take (n - i) (drop i s)) ≡ n - i = length-take-le (n - i) (drop i s) (rw length-drop (omega arith)) in
     let q : length (take (n - i) (drop i now)) ≡ n - i = length-take-le (n - i) (drop i now) (rw length-drop (omega arith)) in
-    written-block s i n (n - i) later w a b o refl (l ∙ copied-whole (take (n - i) (drop i s)) (take (n - i) (drop i now)) (p ∙ sym q))
+    written-block s i i n (n - i) later w (omega arith) a b refl (l ∙ copied-whole (take (n - i) (drop i s)) (take (n - i) (drop i now)) (p ∙ sym q))

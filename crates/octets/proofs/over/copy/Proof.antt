@@ -1,71 +1,61 @@
--- `octets::over::copy` meets its contract. The loop's invariant: the first `i` bytes are written, and the output is as long as it was.
--- The measure is what is left of the `n` bytes that both hold. Assumes nothing.
-use Prim.Native.Nat.{ℕ, _-_, _≤_}
+-- The loop's invariant: the first `i` bytes are written. The measure is what is left of the `n` bytes that both hold.
+use Prim.Native.Nat.{ℕ, _+_, _-_, _≤_}
 use denote.Ref.{now}
-use mathlib.Core.Path.{_≡_, refl, sym, ap, _∙_}
-use mathlib.Core.Logic.{⊎-elim}
-use mathlib.Core.List.{List, []}
+use mathlib.Core.Path.{_≡_, refl, _∙_}
+use mathlib.Core.List.{List}
 use native.Mathlib.Omega.{arith}
-use lib.ListN.{length, getD, take, length-set}
-use lib.Seq.{take-all}
-use Rattle.octets.specs.Over.{copied, over}
-use Rattle.octets.proofs.Laws.Over.{over-none, over-part, over-start}
+use borrow.Author.Needs.{needs}
+use lib.ListN.{length, take, drop, length-drop}
+use lib.Seq.{length-take-le}
+use Rattle.octets.proofs.Laws.Over.{Written, copied-both, length-lent, written-block, written-length, written-none}
+use Rattle.octets.proofs.Laws.Steps.{the}
 use Rattle.octets.proofs.over.copy.Statement.{statement}
 use Rattle.octets.proofs.over.copy.Tie as tie
 
 abbrev Inv-loop : tie.InvT-loop
-Inv-loop s out₀ n i₀ out i =
-    (i ≤ n) × (n ≤ length s) × (n ≤ length out₀) × (take n s ≡ take (length out₀) s) × (length out ≡ length out₀) × (out ≡ over (take i s) out₀)
+Inv-loop s out₀ n i₀ out i = (i ≤ n) × (length out ≡ length out₀) × Written (take i s) out₀ i out
 
 abbrev μ-loop : tie.MeasureT-loop
 μ-loop s out₀ n i₀ out i = n - i
 
-loop-holds : tie.Need-loop-holds Inv-loop μ-loop
-loop-holds c =
-    let s = now (c .before .args .s) in
-    let out = now (c .before .args .out) in
-    let n = c .if1 .n in
-    let both : (n ≤ length s) × (n ≤ length out) × (take n s ≡ take (length out) s) =
-    ⊎-elim
-    (λ w. (omega arith, omega arith, take-all n s (omega arith) ∙ sym (take-all (length out) s (omega arith))))
-    (λ w. (omega arith, omega arith, ap (λ (k : ℕ). take k s) (w .1)))
-    (c .if1 .came) in
-    (omega arith, both .0, both .1, both .2, refl, over-none 0 out ∙ over-start [] out)
+-- the bytes of the last block
+length-last : (n : ℕ) (xs : List ℕ) → 16 ≤ n → n ≤ length xs → length (take (n - (n - 16)) (drop (n - 16) xs)) ≡ 16
+length-last n xs h l = length-take-le (n - (n - 16)) (drop (n - 16) xs) (rw length-drop (omega arith)) ∙ (omega arith)
 
-shared-slice-read-out : tie.Need-shared-slice-read-out Inv-loop μ-loop
-shared-slice-read-out c = omega arith
-
-slice-write-out : tie.Need-slice-write-out Inv-loop μ-loop
-slice-write-out c = omega arith
-
-add-i : tie.Need-add-i Inv-loop μ-loop
-add-i c = omega arith
-
-loop-less : tie.Need-loop-less Inv-loop μ-loop
-loop-less c = omega arith
+copy-16-requires : tie.Need-copy-16-requires Inv-loop μ-loop
+copy-16-requires c κs =
+    let s = now (the (tie.Start Inv-loop μ-loop) (search) .args .s) in
+    let l = the (tie.At-loop Inv-loop μ-loop) (search) .loop in
+    (length-lent (l .i) 16 s (omega arith), length-lent (l .i) 16 (l .out) (omega arith))
 
 loop-again : tie.Need-loop-again Inv-loop μ-loop
 loop-again c =
-    let a = c .before .before .before .before .args in
-    let l = c .before .before .loop in (
-      omega arith,
-      l .inv .1,
-      l .inv .2,
-      l .inv .3,
-      length-set (l .out) (l .i) (getD (now (a .s)) (l .i) 0) ∙ l .inv .4,
-      over-part (l .i) (now (a .s)) (now (a .out)) (l .inv .5) (omega arith) (omega arith),
-    )
+    let s = now (the (tie.Start Inv-loop μ-loop) (search) .args .s) in
+    let l = the (tie.At-loop Inv-loop μ-loop) (search) .loop in
+    let w = written-block s (l .i) (l .i) (l .i + 16) (l .i + 16 - l .i) _ (l .inv .2) (omega arith) (omega arith) (omega arith) refl (the (tie.After-copy-16 Inv-loop μ-loop) (search) .copy-16 .ensures) in
+    (omega arith, written-length w (omega arith), w)
 
-same-length : tie.Need-same-length Inv-loop μ-loop
-same-length c = c .before .loop .inv .4
+copy-16-requires-2 : tie.Need-copy-16-requires-2 Inv-loop μ-loop
+copy-16-requires-2 c κs =
+    let s = now (the (tie.Start Inv-loop μ-loop) (search) .args .s) in
+    let l = the (tie.At-loop Inv-loop μ-loop) (search) .loop in
+    let n = the (tie.After-smaller Inv-loop μ-loop) (search) .smaller .result .0 in
+    (length-last n s (omega arith) (omega arith), length-last n (l .out) (omega arith) (omega arith))
 
-returns : tie.Need-returns Inv-loop μ-loop
-unfolding copied
-returns c =
-    let l = c .before .loop in
-    let a = c .before .before .before .args in
-    let e : l .i ≡ c .before .before .if1 .n = omega arith in
-    l .inv .5 ∙ ap (λ (s : List ℕ). over s (now (a .out))) (ap (λ (n : ℕ). take n (now (a .s))) e ∙ l .inv .3)
+same-length-2 : tie.Need-same-length-2 Inv-loop μ-loop
+same-length-2 c =
+    let s = now (the (tie.Start Inv-loop μ-loop) (search) .args .s) in
+    let l = the (tie.At-loop Inv-loop μ-loop) (search) .loop in
+    let n = the (tie.After-smaller Inv-loop μ-loop) (search) .smaller .result .0 in
+    written-length (written-block s (l .i) (n - 16) n (n - (n - 16)) _ (l .inv .2) (omega arith) (omega arith) (omega arith) refl (the (tie.After-copy-162 Inv-loop μ-loop) (search) .copy-162 .ensures)) (omega arith)
+
+returns-2 : tie.Need-returns-2 Inv-loop μ-loop
+returns-2 c =
+    let a = the (tie.Start Inv-loop μ-loop) (search) .args in
+    let l = the (tie.At-loop Inv-loop μ-loop) (search) .loop in
+    let n = the (tie.After-smaller Inv-loop μ-loop) (search) .smaller .result .0 in
+    written-block (now (a .s)) (l .i) (n - 16) n (n - (n - 16)) _ (l .inv .2) (omega arith) (omega arith) (omega arith) refl (the (tie.After-copy-162 Inv-loop μ-loop) (search) .copy-162 .ensures) .bytes
+    ∙ copied-both n (now (a .s)) (now (a .out)) (the (tie.After-smaller Inv-loop μ-loop) (search) .smaller .ensures)
 
 pub copy-spec : {M : Type 1} → statement M
 copy-spec =
@@ -73,11 +63,30 @@ copy-spec =
     (tie.spec
     Inv-loop
     μ-loop
-    loop-holds
-    shared-slice-read-out
-    slice-write-out
-    add-i
-    loop-less
+    (λ c κs. search needs)
+    (λ c κs. search needs)
+    (λ c. search needs)
+    (λ c. search needs)
+    (λ c. (omega arith, refl, written-none (now (the (tie.Start Inv-loop μ-loop) (search) .args .out))))
+    (λ c. omega arith)
+    (λ c. omega arith)
+    (λ c. omega arith)
+    (λ c. omega arith)
+    (λ c. omega arith)
+    (λ c. omega arith)
+    (λ c. omega arith)
+    (λ c. omega arith)
+    (λ c. omega arith)
+    copy-16-requires
+    (λ c. omega arith)
+    (λ c. omega arith)
     loop-again
-    same-length
-    returns)
+    (λ c. omega arith)
+    (λ c. omega arith)
+    (λ c. omega arith)
+    (λ c. omega arith)
+    (λ c. omega arith)
+    (λ c. omega arith)
+    copy-16-requires-2
+    same-length-2
+    returns-2)

@@ -1,5 +1,4 @@
--- `octets::over::zero` meets its contract. The loop's invariant: `i` zeros are written, and the output is as long as it was.
--- The measure is what is left of the output. Assumes nothing.
+-- The loop's invariant: `i` zeros are written, and the output is as long as it was. The measure is what is left of it.
 use Prim.Native.Nat.{ℕ, _-_, _≤_}
 use denote.Ref.{now}
 use mathlib.Core.Path.{_≡_, refl, ap, _∙_}
@@ -8,6 +7,7 @@ use native.Mathlib.Omega.{arith}
 use lib.ListN.{length, replicate, length-replicate, length-set}
 use Rattle.octets.specs.Over.{over}
 use Rattle.octets.proofs.Laws.Over.{over-none, over-start, over-whole, over-zeros}
+use Rattle.octets.proofs.Laws.Steps.{the}
 use Rattle.octets.proofs.over.zero.Statement.{statement}
 use Rattle.octets.proofs.over.zero.Tie as tie
 
@@ -17,34 +17,16 @@ Inv-loop out₀ n i₀ out i = (i ≤ length out₀) × (length out ≡ length o
 abbrev μ-loop : tie.MeasureT-loop
 μ-loop out₀ n i₀ out i = length out₀ - i
 
-loop-holds : tie.Need-loop-holds Inv-loop μ-loop
-loop-holds c = (omega arith, refl, over-none 0 (now (c .args .out)) ∙ over-start [] (now (c .args .out)))
-
-slice-write-out : tie.Need-slice-write-out Inv-loop μ-loop
-slice-write-out c = omega arith
-
-add-i : tie.Need-add-i Inv-loop μ-loop
-add-i c = omega arith
-
-loop-less : tie.Need-loop-less Inv-loop μ-loop
-loop-less c = omega arith
-
 loop-again : tie.Need-loop-again Inv-loop μ-loop
 loop-again c =
-    let out = now (c .before .before .args .out) in
-    let l = c .before .loop in (
-      omega arith,
-      length-set (l .out) (l .i) 0 ∙ l .inv .1,
-      over-zeros (l .i) out (l .inv .2) (omega arith),
-    )
-
-same-length : tie.Need-same-length Inv-loop μ-loop
-same-length c = c .before .loop .inv .1
+    let out = now (the (tie.Start Inv-loop μ-loop) (search) .args .out) in
+    let l = the (tie.At-loop Inv-loop μ-loop) (search) .loop in
+    (omega arith, length-set (l .out) (l .i) 0 ∙ l .inv .1, over-zeros (l .i) out (l .inv .2) (omega arith))
 
 returns : tie.Need-returns Inv-loop μ-loop
 returns c =
-    let out = now (c .before .before .args .out) in
-    let l = c .before .loop in
+    let out = now (the (tie.Start Inv-loop μ-loop) (search) .args .out) in
+    let l = the (tie.At-loop Inv-loop μ-loop) (search) .loop in
     let e : l .i ≡ length out = omega arith in
     l .inv .2 ∙ over-whole (replicate (l .i) 0) out (length-replicate {A = ℕ} (l .i) 0 ∙ e) ∙ ap (λ (n : ℕ). replicate n 0) e
 
@@ -54,10 +36,10 @@ zero-spec =
     (tie.spec
     Inv-loop
     μ-loop
-    loop-holds
-    slice-write-out
-    add-i
-    loop-less
+    (λ c. (omega arith, refl, over-none 0 (now (c .args .out)) ∙ over-start [] (now (c .args .out))))
+    (λ c. omega arith)
+    (λ c. omega arith)
+    (λ c. omega arith)
     loop-again
-    same-length
+    (λ c. the (tie.At-loop Inv-loop μ-loop) (search) .loop .inv .1)
     returns)

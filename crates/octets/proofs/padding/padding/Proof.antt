@@ -6,12 +6,10 @@ use Rattle.octets.specs.Padding.{padding}
 use Rattle.octets.proofs.padding.padding.Statement.{statement}
 use Rattle.octets.proofs.padding.padding.Tie as tie
 
-sub-t4 : tie.Need-sub-t4
-sub-t4 c = search needs
-
-returns : tie.Need-returns
-unfolding padding
-returns c = omega arith
-
 pub padding-spec : {M : Type 1} → statement M
-padding-spec = tie.close (tie.spec sub-t4 returns)
+unfolding padding
+padding-spec =
+    tie.close
+    (tie.spec
+    (λ c. search needs)
+    (λ c. omega arith))

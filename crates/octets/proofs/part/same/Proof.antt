@@ -11,6 +11,7 @@ use borrow.Author.Tests.{eqb-true, eq-eqb}
 use lib.Dec.{eqb}
 use lib.ListN.{length, getD}
 use lib.Seq.{ext-getD}
+use Rattle.octets.proofs.Laws.Steps.{the}
 use Rattle.octets.proofs.part.same.Statement.{statement}
 use Rattle.octets.proofs.part.same.Tie as tie
 
@@ -21,46 +22,24 @@ Inv-loop a b equal₀ i₀ equal i =
 abbrev μ-loop : tie.MeasureT-loop
 μ-loop a b equal₀ i₀ equal i = length a - i
 
-returns : tie.Need-returns Inv-loop μ-loop
-returns c = (λ r. absurd (false≢true r), λ e. absurd (c .if1 .taken (ap length e)))
-
-loop-holds : tie.Need-loop-holds Inv-loop μ-loop
-loop-holds c = (omega arith, λ e k h. omega arith, λ e. refl)
-
-shared-slice-read-equal : tie.Need-shared-slice-read-equal Inv-loop μ-loop
-shared-slice-read-equal c = omega arith
-
-shared-slice-read-equal-2 : tie.Need-shared-slice-read-equal-2 Inv-loop μ-loop
-shared-slice-read-equal-2 c = omega arith
-
-add-i : tie.Need-add-i Inv-loop μ-loop
-add-i c = omega arith
-
-loop-less : tie.Need-loop-less Inv-loop μ-loop
-loop-less c = omega arith
-
 loop-again : tie.Need-loop-again Inv-loop μ-loop
 loop-again c =
-    let a = now (c .before .before .before .before .before .args .a) in
-    let b = now (c .before .before .before .before .before .args .b) in
-    let l = c .before .before .before .loop in
-    let x = getD a (l .i) 0 in
-    let y = getD b (l .i) 0 in (
+    let a = the (tie.Start Inv-loop μ-loop) (search) .args in
+    let l = the (tie.At-loop Inv-loop μ-loop) (search) .loop in
+    let x = getD (now (a .a)) (l .i) 0 in
+    let y = getD (now (a .b)) (l .i) 0 in (
       omega arith,
       λ r.
           let both = and-eq-true-iff (l .equal) (eqb x y) .0 r in
-          below-more (λ (k : ℕ). getD a k 0 ≡ getD b k 0) (l .i) (l .inv .1 (both .0)) (eqb-true x y (both .1)),
+          below-more (λ (k : ℕ). getD (now (a .a)) k 0 ≡ getD (now (a .b)) k 0) (l .i) (l .inv .1 (both .0)) (eqb-true x y (both .1)),
       λ e. rw (l .inv .2 e, eq-eqb x y (ap (λ (s : List ℕ). getD s (l .i) 0) e)),
     )
 
 returns-2 : tie.Need-returns-2 Inv-loop μ-loop
 returns-2 c =
-    let a = now (c .before .before .before .args .a) in
-    let b = now (c .before .before .before .args .b) in
-    let l = c .before .loop in (
-      λ r. ext-getD 0 a b (omega arith) (λ k h. l .inv .1 r k (omega arith)),
-      λ e. l .inv .2 e,
-    )
+    let a = the (tie.Start Inv-loop μ-loop) (search) .args in
+    let l = the (tie.At-loop Inv-loop μ-loop) (search) .loop in
+    (λ r. ext-getD 0 (now (a .a)) (now (a .b)) (omega arith) (λ k h. l .inv .1 r k (omega arith)), λ e. l .inv .2 e)
 
 pub same-spec : {M : Type 1} → statement M
 same-spec =
@@ -68,11 +47,11 @@ same-spec =
     (tie.spec
     Inv-loop
     μ-loop
-    returns
-    loop-holds
-    shared-slice-read-equal
-    shared-slice-read-equal-2
-    add-i
-    loop-less
+    (λ c. (λ r. absurd (false≢true r), λ e. absurd (c .if1 .taken (ap length e))))
+    (λ c. (omega arith, λ e k h. omega arith, λ e. refl))
+    (λ c. omega arith)
+    (λ c. omega arith)
+    (λ c. omega arith)
+    (λ c. omega arith)
     loop-again
     returns-2)

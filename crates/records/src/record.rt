@@ -83,7 +83,7 @@ pub fn next_record(s: &[u8]) -> Next
     if s[3] != 0 {
         return Next::Stop;
     }
-    let length = u32_at(s, 4) as usize;
+    let length = u32_at(s, Bytes(4)) as usize;
     if LONGEST < length {
         return Next::Stop;
     }

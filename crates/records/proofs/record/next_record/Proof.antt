@@ -97,8 +97,8 @@ summarize-requires c κs = search needs
 answer-of-requires : tie.Need-answer-of-requires
 answer-of-requires c κs = search needs
 
-add-t13 : tie.Need-add-t13
-add-t13 c = search needs
+add-t14 : tie.Need-add-t14
+add-t14 c = search needs
 
 file : tie.Else8 → List ℕ
 file c = now (the tie.Start (search) .args .s)
@@ -147,5 +147,5 @@ next-record-spec =
     shared-slice-read-summarize
     summarize-requires
     answer-of-requires
-    add-t13
+    add-t14
     returns-9)

@@ -1,9 +1,10 @@
 -- The theorems of the section writer.
 use Prim.Native.Nat.{ℕ, _≤_}
-use mathlib.Core.Path.{_≡_, refl, ap, _∙_}
+use mathlib.Core.Path.{_≡_, refl, sym, ap, subst, _∙_}
 use mathlib.Core.Bool.{Bool}
 use mathlib.Core.List.{List}
-use lib.ListN.{length, drop}
+use borrow.Author.Tests.{eq-eqb}
+use lib.ListN.{length, take, drop}
 use Rattle.octets.specs.Octets.{Octets}
 use Rattle.octets.specs.declared.count.Bytes.{Bytes}
 use Rattle.rules.specs.Judged.{copyOf}
@@ -15,13 +16,12 @@ use Rattle.rules.specs.declared.section.Reading.the-variants.{Accepted}
 use Rattle.rules.specs.declared.section.Section.{Section}
 use Rattle.writing.specs.Given.{Given}
 use Rattle.writing.specs.Theorems.{WellFormed, Writing, WrittenAgain, WrittenOutput, givenOf, hidden}
-use Rattle.writing.specs.Writing.{answerAt, bytesAt, writeAnswer, writeBytes}
+use Rattle.writing.specs.Writing.{layoutLength, writeAnswer, writeBytes, writeRefusal}
 use Rattle.writing.proofs.Laws.Again.{Way, accepted, accepted-again}
 use Rattle.writing.proofs.Laws.Carried.{properties-carried, security-carried}
 use Rattle.writing.proofs.Laws.Hidden.{hidden-identity, hidden-properties, hidden-security, properties-hidden, security-hidden}
 use Rattle.writing.proofs.Laws.Laid.{length-section}
 use Rattle.writing.proofs.Laws.Output.{placed-answer, placed-behind, placed-bytes, placed-first, written-placed}
-use Rattle.writing.proofs.Laws.Placed.{section-placed}
 use Rattle.writing.proofs.Laws.ReadBack.{section-back}
 
 -- what was read, as it is
@@ -58,34 +58,38 @@ hidden-way =
 written : (g : Given) (out : List ℕ) (n : Bytes) → WellFormed g → writeAnswer g out ≡ Written n → WrittenOutput g out n
 written g out n w e =
     let a = written-placed g out n e in
-    let placed = section-placed g (n .0) .0 (a .0) in
-    let size = length-section g (n .0) (w .correlation) placed in
+    subst (WrittenOutput g out) (sym (a .2))
+    (let size = length-section g (w .correlation) (a .0) in
     record {
-      length = ap bytes (placed .size);
-      behind = placed-behind g out n (a .0) (a .1) size;
-      output = rw (placed-bytes g out n (a .0) (a .1)) (section-back g (n .0) (drop (n .0) out) w placed);
-      followed = λ rest. rw (placed-first g out n (a .0) (a .1) size) (section-back g (n .0) rest w placed);
-    }
+      length = refl;
+      behind = placed-behind g out (a .0) (a .1) size;
+      output = rw (placed-bytes g out (a .0) (a .1)) (section-back g (drop (layoutLength g) out) w (a .0));
+      followed = λ rest. rw (placed-first g out (a .0) (a .1) size) (section-back g rest w (a .0));
+    })
 
 written-again : (first : Bool) (s out : List ℕ) (r : Section) → Octets s → read first s ≡ Accepted r
     → r .summary .parts .«section_length» .0 ≤ length out → WrittenAgain s out r
 written-again first s out r b e room =
-    let n = r .summary .parts .«section_length» in
+    let g = givenOf r s in
     let a = accepted-again whole-way first s r b e in
+    let room = subst (λ (n : ℕ). n ≤ length out) (sym (a .long)) room in
     record {
-      answer = placed-answer (givenOf r s) out n (a .placed) room;
-      section = placed-first (givenOf r s) out n (a .placed) room (a .size) ∙ a .bytes;
-      behind = placed-behind (givenOf r s) out n (a .placed) room (a .size);
+      answer = placed-answer g out (a .placed) room ∙ ap (λ (n : ℕ). Written (bytes n)) (a .long);
+      section =
+          ap (λ (n : ℕ). take n (writeBytes g out)) (sym (a .long)) ∙ placed-first g out (a .placed) room (a .size) ∙ a .bytes;
+      behind =
+          subst (λ (n : ℕ). drop n (writeBytes g out) ≡ drop n out) (a .long) (placed-behind g out (a .placed) room (a .size));
     }
 
 pub writing : Writing
-unfolding writeAnswer writeBytes answerAt bytesAt supportAnswer supportBytes copyAnswer copyBytes copyOf read
+unfolding writeAnswer writeBytes supportAnswer supportBytes copyAnswer copyBytes copyOf read
 writing =
     record {
       written = written;
       writtenAgain = written-again;
       supportCopy = λ first s out r b e.
           let a = accepted-again hidden-way first s r b e in
+          let none = eq-eqb (writeRefusal (hidden (givenOf r s)) .number) 0 (a .placed) in
           let summary = accepted s (summarize first s) r e .0 in
-          (rw (a .placed, summary), rw (a .placed, summary, a .bytes));
+          (rw (none, a .long, summary), rw (none, a .long, summary, a .bytes));
     }

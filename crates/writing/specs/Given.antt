@@ -36,33 +36,41 @@ given values correlationId senderId encryptionKey signature senderCert providerI
       body = body;
     }
 
--- the fields of the SecurityHeader that would be written; "X bits .. are written zero"
-unfoldable pub securityGiven : Given → SecurityFields
-securityGiven g =
+-- the fields of a SecurityHeader with these Flags and parts; "X bits .. are written zero"
+unfoldable pub securityFrom : ℕ → List ℕ → List ℕ → List ℕ → List ℕ → List ℕ → SecurityFields
+securityFrom flags senderId encryptionKey signature senderCert providerInfo =
     record {
-      flags = g .values .«security_flags» % 4096;
-      «sender_id_size» = bytes (length (g .senderId));
-      «encryption_key_size» = bytes (length (g .encryptionKey));
-      «signature_size» = bytes (length (g .signature));
-      «sender_cert_size» = bytes (length (g .senderCert));
-      «provider_info_size» = bytes (length (g .providerInfo));
+      flags = flags % 4096;
+      «sender_id_size» = bytes (length senderId);
+      «encryption_key_size» = bytes (length encryptionKey);
+      «signature_size» = bytes (length signature);
+      «sender_cert_size» = bytes (length senderCert);
+      «provider_info_size» = bytes (length providerInfo);
     }
 
--- the fields of the MessagePropertiesHeader that would be written; LabelLength counts 16-bit units
-unfoldable pub propertiesGiven : Given → PropertiesFields
-propertiesGiven g =
+-- the fields of a MessagePropertiesHeader with these values and parts; LabelLength counts 16-bit units
+unfoldable pub propertiesFrom : SectionValues → List ℕ → List ℕ → List ℕ → PropertiesFields
+propertiesFrom values label extension body =
     record {
-      flags = g .values .flags % 16;
-      «label_length» = record { 0 = length (g .label) / 2 };
-      «message_class» = g .values .«message_class»;
-      «body_type» = g .values .«body_type»;
-      «message_size» = bytes (length (g .body));
-      «allocation_body_size» = g .values .«allocation_body_size»;
-      «privacy_level» = g .values .«privacy_level»;
-      «hash_algorithm» = g .values .«hash_algorithm»;
-      «encryption_algorithm» = g .values .«encryption_algorithm»;
-      «extension_size» = bytes (length (g .extension));
+      flags = values .flags % 16;
+      «label_length» = record { 0 = length label / 2 };
+      «message_class» = values .«message_class»;
+      «body_type» = values .«body_type»;
+      «message_size» = bytes (length body);
+      «allocation_body_size» = values .«allocation_body_size»;
+      «privacy_level» = values .«privacy_level»;
+      «hash_algorithm» = values .«hash_algorithm»;
+      «encryption_algorithm» = values .«encryption_algorithm»;
+      «extension_size» = bytes (length extension);
     }
+
+-- the fields of both headers of what is given
+abbrev pub securityGiven : Given → SecurityFields
+securityGiven g =
+    securityFrom (g .values .«security_flags») (g .senderId) (g .encryptionKey) (g .signature) (g .senderCert) (g .providerInfo)
+
+abbrev pub propertiesGiven : Given → PropertiesFields
+propertiesGiven g = propertiesFrom (g .values) (g .label) (g .extension) (g .body)
 
 -- with what no step looks at: all that the fixed bytes hold
 abbrev pub fixed : PropertiesFields → List ℕ → ℕ → FixedProperties

@@ -1,23 +1,21 @@
 -- What the section writer and the reader say of each other.
-use Prim.Native.Nat.{ℕ, _+_, _-_, _<_, _≤_}
+use Prim.Native.Nat.{ℕ, _-_, _<_, _≤_}
 use mathlib.Core.Path.{_≡_}
-use mathlib.Core.Bool.{Bool, true, cond}
+use mathlib.Core.Bool.{Bool, true}
 use mathlib.Core.List.{List, _++_}
 use lib.ListN.{length, take, drop, replicate}
 use Rattle.octets.specs.Octets.{Octets}
 use Rattle.octets.specs.declared.count.Bytes.{Bytes}
 use Rattle.rules.specs.Judged.{carried, judgedIdentity, masked}
-use Rattle.rules.specs.Properties.{propertiesLength}
 use Rattle.rules.specs.Reading.{read}
 use Rattle.rules.specs.Refusal.{bytes}
-use Rattle.rules.specs.Security.{securityLength}
 use Rattle.rules.specs.Summary.{partOf}
 use Rattle.rules.specs.Support.{supportAnswer, supportBytes}
 use Rattle.rules.specs.declared.section.Output.the-variants.{Written}
 use Rattle.rules.specs.declared.section.Reading.the-variants.{Accepted}
 use Rattle.rules.specs.declared.section.Section.{Section}
 use Rattle.writing.specs.Given.{Given, propertiesGiven, securityGiven}
-use Rattle.writing.specs.Writing.{writeAnswer, writeBytes}
+use Rattle.writing.specs.Writing.{layoutLength, writeAnswer, writeBytes}
 
 -- the values fit their fields, as their types in the code have it
 pub record WellFormed (g : Given) : Type 0 where
@@ -28,10 +26,6 @@ pub record WellFormed (g : Given) : Type 0 where
   pub privacy : g .values .«privacy_level» < 4294967296
   pub hash : g .values .«hash_algorithm» < 4294967296
   pub encryption : g .values .«encryption_algorithm» < 4294967296
-
--- the length that the layouts of the headers give
-abbrev pub layoutLength : Given → ℕ
-layoutLength g = cond (g .values .«security_first») (securityLength (securityGiven g)) 0 + propertiesLength (propertiesGiven g)
 
 -- what is written reads back as the values and parts given
 pub record ReadsBack (g : Given) (s : List ℕ) (r : Section) : Type 0 where

@@ -1,6 +1,7 @@
 // Writing a section, part by part, into a lent output.
-mod fixed;
+mod field;
 mod part;
+mod properties;
 pub mod section;
-mod steps;
+mod security;
 pub mod values;

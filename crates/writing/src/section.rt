@@ -1,112 +1,82 @@
-// The section writer: each part's writer is lent the rest of the output behind the last part.
-use crate::fixed::write_properties_head;
-use crate::fixed::write_properties_tail;
-use crate::fixed::write_security_fixed;
-use crate::part::write_padded_part;
-use crate::steps::place_end;
-use crate::steps::place_properties;
-use crate::steps::properties_given;
-use crate::steps::security_given;
-use crate::values::Placed;
+// The section writer: every step first, then the headers, each lent the output behind the last.
+use crate::properties::properties_given;
+use crate::properties::properties_number;
+use crate::properties::write_properties;
+use crate::security::security_given;
+use crate::security::security_number;
+use crate::security::write_security;
 use crate::values::SectionValues;
 use octets::count::Bytes;
-use octets::over::copy;
-use octets::over::zero;
-use octets::padding::padding;
+use rules::properties::section_end;
 use rules::refusal;
 use rules::refusal::Refusal;
 use rules::section::CorrelationId;
 use rules::section::Output;
+use rules::security::SecurityFields;
+use rules::security::security_length;
 ghost use mathlib.Core.Path.{_≡_};
-ghost use mathlib.Core.List.{List, _++_};
-ghost use Prim.Native.Nat.{ℕ, _+_, _≤_};
+ghost use Prim.Native.Nat.{_+_, _≤_, min};
 ghost use lib.ListN.{length};
-ghost use Rattle.rules.specs.Refusal.{refusal};
-ghost use Rattle.writing.specs.Given.{given};
-ghost use Rattle.writing.specs.Laid.{partsLength, PropertiesLaid, SectionLaid, SecurityLaid};
 ghost use Rattle.octets.specs.Over.{over};
-ghost use Rattle.writing.specs.Writing.{paddedPart, placeEnd, placeProperties, propertiesBytes, sectionBytes, securityBytes, writeAnswer, writeBytes};
+ghost use Rattle.rules.specs.Refusal.{limit, refusal};
+ghost use Rattle.writing.specs.Given.{given, propertiesFrom, securityFrom};
+ghost use Rattle.writing.specs.Laid.{SectionLaid};
+ghost use Rattle.writing.specs.Writing.{headerNumber, judgeGiven, sectionBytes, startOf, writeAnswer, writeBytes, writeRefusal};
 
-// The parts of a SecurityHeader, each with its padding.
-fn write_security_parts(
-    sender_id: &[u8],
-    encryption_key: &[u8],
-    signature: &[u8],
-    sender_cert: &[u8],
-    provider_info: &[u8],
-    out: &mut [u8],
-)
-    requires { ⌜ partsLength (now «sender_id») (now «encryption_key») (now signature) (now «sender_cert») (now «provider_info») ≤ length (now out) ⌝ }
-    ensures { λ _. ⌜ now (out .exit) ≡ over (paddedPart (now («sender_id» .entry)) ++ (paddedPart (now («encryption_key» .entry)) ++ (paddedPart (now (signature .entry)) ++ (paddedPart (now («sender_cert» .entry)) ++ paddedPart (now («provider_info» .entry)))))) (now (out .entry)) ⌝ }
+// 28 and the steps on the SecurityHeader, where one stands first.
+fn header_number(security_first: bool, f: SecurityFields, identity: &[u8], info: &[u8]) -> u32
+    ensures { λ r. ⌜ r ≡ headerNumber «security_first» f (now (identity .entry)) (now (info .entry)) ⌝ }
 {
-    let key_at = write_padded_part(sender_id, out);
-    let signature_at = key_at + write_padded_part(encryption_key, &mut out[key_at..]);
-    let cert_at = signature_at + write_padded_part(signature, &mut out[signature_at..]);
-    let provider_at = cert_at + write_padded_part(sender_cert, &mut out[cert_at..]);
-    write_padded_part(provider_info, &mut out[provider_at..]);
+    if security_first {
+        return security_number(f, identity, info);
+    }
+    refusal::PASSED
 }
 
-fn write_security(
+// Where the MessagePropertiesHeader begins, but at most one byte above the limit.
+fn properties_start(security_first: bool, f: SecurityFields) -> Bytes
+    ensures { λ r. ⌜ r .0 ≡ min (limit + 1) (startOf «security_first» f) ⌝ }
+{
+    if security_first {
+        return security_length(f);
+    }
+    Bytes(0)
+}
+
+// The refusal but for 13; its number is 0 where no step fails.
+fn judge(
     values: SectionValues,
     sender_id: &[u8],
     encryption_key: &[u8],
     signature: &[u8],
     sender_cert: &[u8],
     provider_info: &[u8],
-    out: &mut [u8],
-)
-    requires { ⌜ SecurityLaid (now «sender_id») (now «encryption_key») (now signature) (now «sender_cert») (now «provider_info») (now out) ⌝ }
-    ensures { λ _. ⌜ ((i l x b : List ℕ) → now (out .exit) ≡ over (securityBytes (given values i (now («sender_id» .entry)) (now («encryption_key» .entry)) (now (signature .entry)) (now («sender_cert» .entry)) (now («provider_info» .entry)) l x b)) (now (out .entry))) ⌝ }
-{
-    let fields = security_given(
-        values,
-        sender_id,
-        encryption_key,
-        signature,
-        sender_cert,
-        provider_info,
-    );
-    write_security_fixed(fields, out);
-    write_security_parts(
-        sender_id,
-        encryption_key,
-        signature,
-        sender_cert,
-        provider_info,
-        &mut out[16..],
-    );
-}
-
-// The parts behind the fixed bytes of a MessagePropertiesHeader, with nothing between them.
-fn write_properties_parts(label: &[u8], extension: &[u8], body: &[u8], out: &mut [u8])
-    requires { ⌜ length (now label) + length (now extension) + length (now body) ≤ length (now out) ⌝ }
-    ensures { λ _. ⌜ now (out .exit) ≡ over (now (label .entry) ++ (now (extension .entry) ++ now (body .entry))) (now (out .entry)) ⌝ }
-{
-    let extension_at = label.len();
-    let body_at = extension_at + extension.len();
-    copy(label, out);
-    copy(extension, &mut out[extension_at..]);
-    copy(body, &mut out[body_at..]);
-}
-
-fn write_properties(
-    values: SectionValues,
-    correlation_id: CorrelationId,
     label: &[u8],
     extension: &[u8],
     body: &[u8],
-    out: &mut [u8],
-)
-    requires { ⌜ PropertiesLaid (now label) (now extension) (now body) (values .«allocation_body_size» .0) (now out) ⌝ }
-    ensures { λ _. ⌜ ((d k s c p : List ℕ) → now (out .exit) ≡ over (propertiesBytes (given values «correlation_id» d k s c p (now (label .entry)) (now (extension .entry)) (now (body .entry)))) (now (out .entry))) ⌝ }
+) -> Refusal
+    ensures { λ r. ⌜ r ≡ judgeGiven (values .«security_first») (securityFrom (values .«security_flags») (now («sender_id» .entry)) (now («encryption_key» .entry)) (now (signature .entry)) (now («sender_cert» .entry)) (now («provider_info» .entry))) (now («sender_id» .entry)) (now («provider_info» .entry)) (propertiesFrom values (now (label .entry)) (now (extension .entry)) (now (body .entry))) (now (label .entry)) ⌝ }
 {
-    let fields = properties_given(values, label, extension, body);
-    let size = 56 + label.len() + extension.len() + body.len();
-    let zeros = padding(Bytes(size)).0;
-    write_properties_head(fields, correlation_id, values.application_tag, out);
-    write_properties_tail(fields, &mut out[32..]);
-    write_properties_parts(label, extension, body, &mut out[56..]);
-    zero(&mut out[size..size + zeros]);
+    let security = security_given(
+        values.security_flags,
+        sender_id,
+        encryption_key,
+        signature,
+        sender_cert,
+        provider_info,
+    );
+    let number = header_number(values.security_first, security, sender_id, provider_info);
+    if number != refusal::PASSED {
+        return Refusal {
+            number,
+            place: Bytes(0),
+        };
+    }
+    let at = properties_start(values.security_first, security);
+    Refusal {
+        number: properties_number(values, label, extension, body, at),
+        place: at,
+    }
 }
 
 // The section, where every step has passed and the output has room. Its MessagePropertiesHeader begins at `start`.
@@ -121,16 +91,23 @@ fn write_headers(
     label: &[u8],
     extension: &[u8],
     body: &[u8],
-    start: usize,
+    start: Bytes,
     out: &mut [u8],
 )
-    requires { ⌜ SectionLaid (given values «correlation_id» (now «sender_id») (now «encryption_key») (now signature) (now «sender_cert») (now «provider_info») (now label) (now extension) (now body)) start (now out) ⌝ }
+    requires { ⌜ SectionLaid (given values «correlation_id» (now «sender_id») (now «encryption_key») (now signature) (now «sender_cert») (now «provider_info») (now label) (now extension) (now body)) (start .0) (now out) ⌝ }
     ensures { λ _. ⌜ now (out .exit) ≡ over (sectionBytes (given values «correlation_id» (now («sender_id» .entry)) (now («encryption_key» .entry)) (now (signature .entry)) (now («sender_cert» .entry)) (now («provider_info» .entry)) (now (label .entry)) (now (extension .entry)) (now (body .entry)))) (now (out .entry)) ⌝ }
 {
     let first = values.security_first;
     if first {
         write_security(
-            values,
+            security_given(
+                values.security_flags,
+                sender_id,
+                encryption_key,
+                signature,
+                sender_cert,
+                provider_info,
+            ),
             sender_id,
             encryption_key,
             signature,
@@ -139,13 +116,15 @@ fn write_headers(
             out,
         );
     }
+    let at = start.0;
     write_properties(
-        values,
+        properties_given(values, label, extension, body),
         correlation_id,
+        values.application_tag,
         label,
         extension,
         body,
-        &mut out[start..],
+        &mut out[at..],
     );
 }
 
@@ -158,8 +137,8 @@ fn output_short() -> Output
     })
 }
 
-// 13, and the section, which ends at `length`.
-fn write_within(
+// 13, and the section, where every step before has passed.
+fn write_judged(
     values: SectionValues,
     correlation_id: CorrelationId,
     sender_id: &[u8],
@@ -171,14 +150,14 @@ fn write_within(
     extension: &[u8],
     body: &[u8],
     start: Bytes,
-    length: Bytes,
     out: &mut [u8],
 ) -> Output
-    requires { ⌜ placeProperties (given values «correlation_id» (now «sender_id») (now «encryption_key») (now signature) (now «sender_cert») (now «provider_info») (now label) (now extension) (now body)) ≡ Placed.At start ⌝ }
-    requires { ⌜ placeEnd (given values «correlation_id» (now «sender_id») (now «encryption_key») (now signature) (now «sender_cert») (now «provider_info») (now label) (now extension) (now body)) (Placed.At start) ≡ Placed.At length ⌝ }
+    requires { ⌜ writeRefusal (given values «correlation_id» (now «sender_id») (now «encryption_key») (now signature) (now «sender_cert») (now «provider_info») (now label) (now extension) (now body)) .number ≡ 0 ⌝ }
+    requires { ⌜ writeRefusal (given values «correlation_id» (now «sender_id») (now «encryption_key») (now signature) (now «sender_cert») (now «provider_info») (now label) (now extension) (now body)) .place ≡ start ⌝ }
     ensures { λ r. ⌜ r ≡ writeAnswer (given values «correlation_id» (now («sender_id» .entry)) (now («encryption_key» .entry)) (now (signature .entry)) (now («sender_cert» .entry)) (now («provider_info» .entry)) (now (label .entry)) (now (extension .entry)) (now (body .entry))) (now (out .entry)) ⌝ }
     ensures { λ _. ⌜ now (out .exit) ≡ writeBytes (given values «correlation_id» (now («sender_id» .entry)) (now («encryption_key» .entry)) (now (signature .entry)) (now («sender_cert» .entry)) (now («provider_info» .entry)) (now (label .entry)) (now (extension .entry)) (now (body .entry))) (now (out .entry)) ⌝ }
 {
+    let length = section_end(properties_given(values, label, extension, body), start);
     if out.len() < length.0 {
         return output_short();
     }
@@ -193,52 +172,10 @@ fn write_within(
         label,
         extension,
         body,
-        start.0,
+        start,
         out,
     );
     Output::Written(length)
-}
-
-// P2 to P5 and P7, and what follows them, where the MessagePropertiesHeader has its place.
-fn write_placed(
-    values: SectionValues,
-    correlation_id: CorrelationId,
-    sender_id: &[u8],
-    encryption_key: &[u8],
-    signature: &[u8],
-    sender_cert: &[u8],
-    provider_info: &[u8],
-    label: &[u8],
-    extension: &[u8],
-    body: &[u8],
-    placed: Placed,
-    out: &mut [u8],
-) -> Output
-    requires { ⌜ placed ≡ placeProperties (given values «correlation_id» (now «sender_id») (now «encryption_key») (now signature) (now «sender_cert») (now «provider_info») (now label) (now extension) (now body)) ⌝ }
-    ensures { λ r. ⌜ r ≡ writeAnswer (given values «correlation_id» (now («sender_id» .entry)) (now («encryption_key» .entry)) (now (signature .entry)) (now («sender_cert» .entry)) (now («provider_info» .entry)) (now (label .entry)) (now (extension .entry)) (now (body .entry))) (now (out .entry)) ⌝ }
-    ensures { λ _. ⌜ now (out .exit) ≡ writeBytes (given values «correlation_id» (now («sender_id» .entry)) (now («encryption_key» .entry)) (now (signature .entry)) (now («sender_cert» .entry)) (now («provider_info» .entry)) (now (label .entry)) (now (extension .entry)) (now (body .entry))) (now (out .entry)) ⌝ }
-{
-    match placed {
-        Placed::Refused(r) => Output::Refused(r),
-        Placed::At(start) => match place_end(values, label, extension, body, start) {
-            Placed::Refused(r) => Output::Refused(r),
-            Placed::At(length) => write_within(
-                values,
-                correlation_id,
-                sender_id,
-                encryption_key,
-                signature,
-                sender_cert,
-                provider_info,
-                label,
-                extension,
-                body,
-                start,
-                length,
-                out,
-            ),
-        },
-    }
 }
 
 // Writes the section at the front of the output, or refuses and writes nothing: the steps in 01's order, and 13 last.
@@ -259,15 +196,21 @@ pub fn write_section(
     ensures { λ r. ⌜ r ≡ writeAnswer (given values «correlation_id» (now («sender_id» .entry)) (now («encryption_key» .entry)) (now (signature .entry)) (now («sender_cert» .entry)) (now («provider_info» .entry)) (now (label .entry)) (now (extension .entry)) (now (body .entry))) (now (out .entry)) ⌝ }
     ensures { λ _. ⌜ now (out .exit) ≡ writeBytes (given values «correlation_id» (now («sender_id» .entry)) (now («encryption_key» .entry)) (now (signature .entry)) (now («sender_cert» .entry)) (now («provider_info» .entry)) (now (label .entry)) (now (extension .entry)) (now (body .entry))) (now (out .entry)) ⌝ }
 {
-    let placed = place_properties(
+    let judged = judge(
         values,
         sender_id,
         encryption_key,
         signature,
         sender_cert,
         provider_info,
+        label,
+        extension,
+        body,
     );
-    write_placed(
+    if judged.number != refusal::PASSED {
+        return Output::Refused(judged);
+    }
+    write_judged(
         values,
         correlation_id,
         sender_id,
@@ -278,7 +221,7 @@ pub fn write_section(
         label,
         extension,
         body,
-        placed,
+        judged.place,
         out,
     )
 }

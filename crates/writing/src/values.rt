@@ -1,6 +1,5 @@
-// What the section writer is given beside the parts, and what its steps find.
+// What the section writer is given beside the parts.
 use octets::count::Bytes;
-use rules::refusal::Refusal;
 
 // The values of a full reading. The sizes come from the parts.
 #[repr(C)]
@@ -15,10 +14,4 @@ pub struct SectionValues {
     pub privacy_level: u32,
     pub hash_algorithm: u32,
     pub encryption_algorithm: u32,
-}
-
-// An offset in the section that would be written, or the refusal.
-pub enum Placed {
-    At(Bytes),
-    Refused(Refusal),
 }

@@ -1,5 +1,5 @@
 -- An accepted section written again, whole or with less of it shown: one law for both.
-use Prim.Native.Nat.{ℕ, _+_, _%_}
+use Prim.Native.Nat.{ℕ, _+_, _%_, _≤_}
 use mathlib.Core.Path.{_≡_, refl, sym, ap, subst, _∙_}
 use mathlib.Core.Bool.{Bool, true, false, cond}
 use mathlib.Core.List.{List, [], _++_}
@@ -13,11 +13,12 @@ use Rattle.octets.specs.declared.count.Bytes.{Bytes}
 use Rattle.octets.proofs.Laws.Number.{le-lt}
 use Rattle.octets.proofs.Laws.Part.{length-within}
 use Rattle.rules.specs.Judged.{masked, propertiesBits, sectionBits, securityBits}
-use Rattle.rules.specs.Security.{ST, identityHead, identitySize, securityContents, securityFields, securityLength, securityParts, securitySteps}
+use Rattle.rules.specs.Properties.{propertiesLength}
+use Rattle.rules.specs.Refusal.{limit}
+use Rattle.rules.specs.Security.{ST, identityHead, identitySize, securityFields, securityLength, securitySteps}
 use Rattle.rules.specs.Reading.{fullReading, read, summarize}
 use Rattle.rules.specs.Summary.{labelOf, noSecurity, propertiesAt, sectionOf, summaryOf}
 use Rattle.rules.specs.declared.properties.PropertiesFields.{PropertiesFields}
-use Rattle.rules.specs.declared.refusal.Checked.the-variants.{Passed}
 use Rattle.rules.specs.declared.section.Reading.the-variants.{Accepted as Reading·Accepted}
 use Rattle.rules.specs.declared.section.Section.{Section}
 use Rattle.rules.specs.declared.section.Summarized.{Summarized}
@@ -25,16 +26,13 @@ use Rattle.rules.specs.declared.section.Summarized.the-variants.{Accepted, Refu
 use Rattle.rules.specs.declared.section.Summary.{Summary}
 use Rattle.rules.specs.declared.security.SecurityFields.{SecurityFields}
 use Rattle.rules.specs.declared.security.SecurityHeader.{SecurityHeader}
-use Rattle.rules.specs.declared.security.SecurityLayout.the-variants.{Fits}
-use Rattle.rules.specs.declared.properties.PropertiesLayout.the-variants.{Fits as Properties·Fits}
-use Rattle.rules.proofs.Laws.Accepted.{HeaderPassed, SectionPassed, SecurityPassed, properties-fits, section-passed, security-fields, security-fits}
+use Rattle.rules.proofs.Laws.Accepted.{HeaderPassed, SectionPassed, SecurityPassed, header-fits, section-fits, section-passed, security-fields}
 use Rattle.writing.specs.Given.{Given, propertiesGiven, securityGiven}
 use Rattle.writing.specs.Theorems.{givenOf}
-use Rattle.writing.specs.Writing.{placeSection, propertiesBytes, sectionBytes, securityBytes, tooLarge}
-use Rattle.writing.specs.declared.values.Placed.the-variants.{At}
+use Rattle.writing.specs.Writing.{layoutLength, propertiesBytes, sectionBytes, securityBytes, startOf, tooLarge, writeRefusal}
 use Rattle.writing.proofs.Laws.GivenOf.{givenAgain, properties-of, propertiesGiven-again, security-of, securityGiven-again}
 use Rattle.writing.proofs.Laws.Laid.{length-section}
-use Rattle.writing.proofs.Laws.Placed.{HeaderPlaced, SectionPlaced, section-placed, startOf}
+use Rattle.writing.proofs.Laws.Placed.{HeaderPlaced, SectionPlaced, section-placed}
 use Rattle.writing.proofs.Laws.Row.{headerBytes, length-headerBytes}
 use Rattle.writing.proofs.Laws.PropertiesShown.{PropertiesOf}
 use Rattle.writing.proofs.Laws.SecurityShown.{SecurityOf}
@@ -55,10 +53,11 @@ pub record Way (k : Given → Given) (p : ℕ) : Type 0 where
   pub propertiesShown : (g : Given) (s : List ℕ) (at : ℕ) → Octets s → PropertiesOf g s at
       → Shown (propertiesBits p (propertiesGiven g)) (propertiesBytes (k g)) s at
 
--- what is given is placed, and its bytes are so many and these
+-- no step refuses what is given, and its bytes are so many and these
 pub record WrittenAs (g : Given) (n : Bytes) (section : List ℕ) : Type 0 where
-  pub placed : placeSection g ≡ At n
-  pub size : length (sectionBytes g) ≡ n .0
+  pub placed : writeRefusal g .number ≡ 0
+  pub long : layoutLength g ≡ n .0
+  pub size : length (sectionBytes g) ≡ layoutLength g
   pub bytes : sectionBytes g ≡ section
 
 -- an accepted input has a summary, of which the full reading is made
@@ -80,6 +79,20 @@ summary-passed first s m e =
     let same : m .«security_first» ≡ first = ap (λ (x : Summary). x .«security_first») (a .properties .summary) in
     subst (λ (b : Bool). SectionPassed b s m) (sym same) a
 
+-- 28: two sizes were read from two bytes, and S5 passed
+header-small : (s : List ℕ) (m : Summary) → Octets s → SecurityPassed s (m .security) → tooLarge (m .security .fields) ≡ false
+unfolding tooLarge securityFields
+header-small s m b a =
+    let f = m .security .fields in
+    let read = security-fields s (m .security) a in
+    let key : f .«encryption_key_size» .0 ≡ le 2 s 4 = ap (λ (f : SecurityFields). f .«encryption_key_size» .0) read in
+    let signature : f .«signature_size» .0 ≡ le 2 s 6 = ap (λ (f : SecurityFields). f .«signature_size» .0) read in
+    rw (
+      le-ltb 65535 (f .«encryption_key_size» .0) (omega (arith, le-lt 2 s 4 b)),
+      le-ltb 65535 (f .«signature_size» .0) (omega (arith, le-lt 2 s 6 b)),
+      le-ltb 65535 (f .«sender_cert_size» .0) (header-fits a .cert),
+    )
+
 module _ {k : Given → Given} {bits : ℕ} (w : Way k bits) where
   -- the SecurityHeader read is shown
   header-shown : (first : Bool) (s : List ℕ) (m : Summary) → Octets s → HeaderPassed first s (m .security)
@@ -90,73 +103,62 @@ module _ {k : Given → Given} {bits : ℕ} (w : Way k bits) where
       (securityGiven-again true s m a) (w .securityShown (givenAgain m s) s b (security-of s m a))
   header-shown false s m b a = record { size = refl; kept = refl }
 
-  -- 28: two sizes were read from two bytes, and S5 passed
-  header-small : (s : List ℕ) (m : Summary) → Octets s → SecurityPassed s (m .security) → tooLarge (k (givenAgain m s)) ≡ false
-  unfolding tooLarge securityGiven securityFields
-  header-small s m b a =
-      let g = k (givenAgain m s) in
-      let f = m .security .fields in
-      let e : securityGiven g ≡ f = w .security (givenAgain m s) ∙ securityGiven-again true s m a in
-      let read = security-fields s (m .security) a in
-      let key : length (g .encryptionKey) ≡ le 2 s 4 = ap (λ (f : SecurityFields). f .«encryption_key_size» .0) (e ∙ read) in
-      let signature : length (g .signature) ≡ le 2 s 6 = ap (λ (f : SecurityFields). f .«signature_size» .0) (e ∙ read) in
-      let cert : length (g .senderCert) ≡ f .«sender_cert_size» .0 = ap (λ (f : SecurityFields). f .«sender_cert_size» .0) e in
-      let fits = security-fits f 0 (m .security .parts) (a .fits) in
-      rw (
-        le-ltb 65535 (length (g .encryptionKey)) (omega (arith, le-lt 2 s 4 b)),
-        le-ltb 65535 (length (g .signature)) (omega (arith, le-lt 2 s 6 b)),
-        le-ltb 65535 (length (g .senderCert)) (omega arith),
-      )
-
   -- the steps on the SecurityHeader pass again
   header-placed : (first : Bool) (s : List ℕ) (m : Summary) → Octets s → HeaderPassed first s (m .security)
       → HeaderPlaced first (k (givenAgain m s))
-  unfolding securityContents givenOf sectionOf
+  unfolding givenOf sectionOf
   header-placed true s m b a =
       let g = givenAgain m s in
-      let h = m .security in
+      let f = m .security .fields in
       let again = securityGiven-again true s m a in
-      let e : securityGiven (k g) ≡ h .fields = w .security g ∙ again in
-      let fits = security-fits (h .fields) 0 (h .parts) (a .fits) in
-      let identity = subst (λ (f : SecurityFields). identitySize (ST f) (f .«sender_id_size» .0) ≡ true) (sym again)
-      (fits .identity) in
-      let contents = subst (λ (f : SecurityFields). securityContents f (g .senderId) (g .providerInfo) 0 ≡ Passed) (sym again)
-      (a .contents) in
+      let e : securityGiven (k g) ≡ f = w .security g ∙ again in
+      let size = subst (λ (f : SecurityFields). identitySize (ST f) (f .«sender_id_size» .0) ≡ true) (sym again)
+      (header-fits a .identity) in
+      let identity = subst (λ (f : SecurityFields). identityHead f (g .senderId) ≡ true) (sym again) (a .identity) in
       record {
-        small = header-small s m b a;
-        fits =
-            subst (λ (f : SecurityFields). securitySteps f 0 ≡ Fits (securityParts f)) (sym e) (a .fits ∙ ap Fits (fits .layout));
-        contents = rw (w .security g, w .identity g identity, w .provider g) contents;
+        large = subst (λ (f : SecurityFields). tooLarge f ≡ false) (sym e) (header-small s m b a);
+        steps = subst (λ (f : SecurityFields). securitySteps f ≡ 0) (sym e) (a .steps);
+        small = subst (λ (f : SecurityFields). securityLength f ≤ limit) (sym e) (a .small);
+        identity = rw (w .security g, w .identity g size) identity;
+        provider = rw (w .provider g) (a .provider);
       }
   header-placed false s m b a = tt
 
   -- the MessagePropertiesHeader begins where it was read
   start-again : (first : Bool) (s : List ℕ) (m : Summary) → HeaderPassed first s (m .security)
-      → startOf first (k (givenAgain m s)) ≡ propertiesAt m
+      → startOf first (securityGiven (k (givenAgain m s))) ≡ propertiesAt m
   unfolding noSecurity
   start-again true s m a =
       ap securityLength (w .security (givenAgain m s) ∙ securityGiven-again true s m a)
-      ∙ sym (security-fits (m .security .fields) 0 (m .security .parts) (a .fits) .size)
+      ∙ sym (header-fits a .size)
   start-again false s m a = ap (λ (h : SecurityHeader). h .parts .length .0) (sym a)
 
   module _ (s : List ℕ) (m : Summary) (b : Octets s) (a : SectionPassed (m .«security_first») s m) where
     -- the section's steps pass again
-    again-placed : SectionPlaced (m .«security_first») (k (givenAgain m s)) (m .parts .«section_length» .0)
+    again-placed : SectionPlaced (m .«security_first») (k (givenAgain m s))
     unfolding labelOf givenOf sectionOf
     again-placed =
         let first = m .«security_first» in
         let g = givenAgain m s in
-        let p = propertiesAt m in
         let e : propertiesGiven (k g) ≡ m .properties = w .properties g ∙ propertiesGiven-again first s m (a .properties) in
         let start = start-again first s m (a .security) in
-        let fits = properties-fits (m .properties) p (m .parts) (a .properties .fits) in
         record {
           security = header-placed first s m b (a .security);
-          even = ap (λ (x : List ℕ). length x % 2) (w .label g) ∙ properties-of first s m (a .properties) .even;
-          fits = rw (start, e) (a .properties .fits ∙ ap Properties·Fits (fits .layout));
-          contents = rw (start, w .label g) (a .properties .contents);
-          size = rw (start, e) (fits .size);
+          properties =
+              record {
+                even = ap (λ (x : List ℕ). length x % 2) (w .label g) ∙ properties-of first s m (a .properties) .even;
+                steps = rw e (a .properties .steps);
+                small = rw (start, e) (a .properties .small);
+                label = rw (w .label g) (a .properties .label);
+              };
         }
+
+    -- and it is as long
+    again-long : startOf (m .«security_first») (securityGiven (k (givenAgain m s))) + propertiesLength (propertiesGiven (k (givenAgain m s)))
+        ≡ m .parts .«section_length» .0
+    again-long =
+        let e = w .properties (givenAgain m s) ∙ propertiesGiven-again (m .«security_first») s m (a .properties) in
+        rw (start-again (m .«security_first») s m (a .security), e) (sym (section-fits (a .properties) .size))
 
     -- the section's bytes, as far as the masks show them
     again-shown : Shown (sectionBits bits m)
@@ -177,13 +179,13 @@ module _ {k : Given → Given} {bits : ℕ} (w : Way k bits) where
     unfolding givenOf sectionOf sectionBytes
     again =
         let g = givenAgain m s in
-        let n = m .parts .«section_length» .0 in
         let section : Bool → List ℕ = λ first. headerBytes first (k g) ++ propertiesBytes (k g) in
-        let placed = subst (λ (first : Bool). SectionPlaced first (k g) n) (sym (w .first g)) again-placed in
+        let placed = section-placed (k g) .1 (subst (λ (first : Bool). SectionPlaced first (k g)) (sym (w .first g)) again-placed) in
         let twenty = length-within s (propertiesAt m + 4) 20 (omega (arith, a .properties .fixed)) in
         record {
-          placed = section-placed (k g) n .1 placed;
-          size = length-section (k g) n (w .correlation g twenty) placed;
+          placed = placed;
+          long = ap (λ (b : Bool). startOf b (securityGiven (k g)) + propertiesLength (propertiesGiven (k g))) (w .first g) ∙ again-long;
+          size = length-section (k g) (w .correlation g twenty) placed;
           bytes = ap section (w .first g) ∙ again-shown .kept;
         }
 

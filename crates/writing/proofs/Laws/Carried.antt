@@ -12,7 +12,7 @@ use Rattle.rules.specs.Judged.{judgedIdentity, partBits, propertiesBits, securi
 use Rattle.rules.specs.Properties.{bodyAt, extensionAt, labelBytes, propertiesLength, propertiesParts}
 use Rattle.rules.specs.Security.{certAt, keyAt, providerAt, securityLength, securityParts, signatureAt}
 use Rattle.rules.proofs.Laws.Judged.{judgedIdentity-le}
-use Rattle.writing.specs.Given.{Given, propertiesGiven, securityGiven}
+use Rattle.writing.specs.Given.{Given, propertiesFrom, propertiesGiven, securityFrom, securityGiven}
 use Rattle.writing.specs.Writing.{propertiesBytes, securityBytes}
 use Rattle.writing.proofs.Laws.PropertiesShown.{PropertiesOf, properties-shown}
 use Rattle.writing.proofs.Laws.SecurityShown.{SecurityOf, security-shown}
@@ -21,7 +21,7 @@ use Rattle.writing.proofs.Laws.Shown.{Shown, shown-all, shown-judged, s
 -- the SecurityHeader
 pub security-carried : (g : Given) (s : List ℕ) → Octets s → SecurityOf g s
     → Shown (securityBits 8 (securityGiven g)) (securityBytes g) s 0
-unfolding securityBits partBits securityGiven securityParts securityLength providerAt certAt signatureAt keyAt padded
+unfolding securityBits partBits securityFrom securityParts securityLength providerAt certAt signatureAt keyAt padded
 security-carried g s b a =
     let f = securityGiven g in
     let room = a .room in
@@ -41,7 +41,7 @@ security-carried g s b a =
 -- the MessagePropertiesHeader
 pub properties-carried : (g : Given) (s : List ℕ) (p : ℕ) → Octets s → PropertiesOf g s p
     → Shown (propertiesBits 8 (propertiesGiven g)) (propertiesBytes g) s p
-unfolding propertiesBits propertiesGiven propertiesLength padded extensionAt bodyAt propertiesParts
+unfolding propertiesBits propertiesFrom propertiesLength padded extensionAt bodyAt propertiesParts
 properties-carried g s p b a =
     let f = propertiesGiven g in
     let room = a .room in

@@ -20,8 +20,8 @@ use Rattle.rules.specs.declared.section.Summary.{Summary}
 use Rattle.rules.specs.declared.security.SecurityFields.{SecurityFields}
 use Rattle.rules.specs.declared.security.SecurityHeader.{SecurityHeader}
 use Rattle.rules.specs.declared.security.SecurityParts.{SecurityParts}
-use Rattle.rules.proofs.Laws.Accepted.{HeaderPassed, PropertiesPassed, SecurityPassed, properties-fields, properties-fits, security-fields, security-fits}
-use Rattle.writing.specs.Given.{Given, propertiesGiven, securityGiven}
+use Rattle.rules.proofs.Laws.Accepted.{HeaderPassed, PropertiesPassed, SecurityPassed, header-fits, properties-fields, section-fits, security-fields}
+use Rattle.writing.specs.Given.{Given, propertiesFrom, propertiesGiven, securityFrom, securityGiven}
 use Rattle.writing.specs.Theorems.{givenOf}
 use Rattle.writing.proofs.Laws.PropertiesShown.{PropertiesOf}
 use Rattle.writing.proofs.Laws.SecurityShown.{SecurityOf}
@@ -57,7 +57,7 @@ header-again : (first : Bool) (s : List ℕ) (h : SecurityHeader) → HeaderPass
     → securityAgain s (h .fields) (h .parts) ≡ h .fields
 unfolding securityFields noSecurity
 header-again true s h a =
-    let fits = security-fits (h .fields) 0 (h .parts) (a .fits) in
+    let fits = header-fits a in
     let flags : h .fields .flags % 4096 ≡ h .fields .flags =
     subst (λ (f : SecurityFields). f .flags % 4096 ≡ f .flags) (sym (security-fields s h a)) (mod-mod (le 2 s 0) 4096) in
     let room : securityLength (h .fields) ≤ length s = rw (← fits .size) (a .reaches) in
@@ -105,14 +105,14 @@ givenAgain m s = givenOf (sectionOf m s) s
 -- the fields that would be written are those read, and the parts stand where they were read
 pub securityGiven-again : (first : Bool) (s : List ℕ) (m : Summary) → HeaderPassed first s (m .security)
     → securityGiven (givenAgain m s) ≡ m .security .fields
-unfolding securityGiven givenOf sectionOf
+unfolding securityFrom givenOf sectionOf
 securityGiven-again first s m a = header-again first s (m .security) a
 
 pub security-of : (s : List ℕ) (m : Summary) → SecurityPassed s (m .security) → SecurityOf (givenAgain m s) s
 unfolding givenOf sectionOf
 security-of s m a =
     let h = m .security in
-    let fits = security-fits (h .fields) 0 (h .parts) (a .fits) in
+    let fits = header-fits a in
     let e : securityGiven (givenAgain m s) ≡ h .fields = securityGiven-again true s m a in
     let layout : securityParts (securityGiven (givenAgain m s)) ≡ h .parts = ap securityParts e ∙ sym (fits .layout) in
     record {
@@ -131,11 +131,11 @@ security-of s m a =
 
 module _ (first : Bool) (s : List ℕ) (m : Summary) (a : PropertiesPassed first s m) where
   pub propertiesGiven-again : propertiesGiven (givenAgain m s) ≡ m .properties
-  unfolding propertiesGiven givenOf sectionOf propertiesFields
+  unfolding propertiesFrom givenOf sectionOf propertiesFields
   propertiesGiven-again =
       let p = propertiesAt m in
       let f = m .properties in
-      let fits = properties-fits f p (m .parts) (a .fits) in
+      let fits = section-fits a in
       let flags : f .flags % 16 ≡ f .flags =
       subst (λ (f : PropertiesFields). f .flags % 16 ≡ f .flags) (sym (properties-fields first s m a))
       (mod-mod (le 1 (drop p s) 0) 16) in
@@ -147,7 +147,7 @@ module _ (first : Bool) (s : List ℕ) (m : Summary) (a : PropertiesPassed first
   properties-of =
       let p = propertiesAt m in
       let f = m .properties in
-      let fits = properties-fits f p (m .parts) (a .fits) in
+      let fits = section-fits a in
       let e = propertiesGiven-again in
       let layout : propertiesParts p (propertiesGiven (givenAgain m s)) ≡ m .parts = ap (propertiesParts p) e ∙ sym (fits .layout) in
       let reaches : p + propertiesLength f ≤ length s = rw (← fits .size) (a .reaches) in

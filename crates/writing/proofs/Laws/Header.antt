@@ -1,7 +1,7 @@
 -- The bytes of both headers are the rows of their fields with the parts behind them.
 use Prim.Native.Nat.{ℕ, _+_}
-use mathlib.Core.Path.{_≡_, refl, sym, ap, subst}
-use mathlib.Core.List.{List, [], _++_, append-assoc}
+use mathlib.Core.Path.{_≡_, refl}
+use mathlib.Core.List.{List, [], _++_, append-assoc, append-nil}
 use native.Mathlib.Omega.{arith}
 use lib.ListN.{length, replicate, length-append}
 use Rattle.octets.specs.Number.{toLe}
@@ -11,11 +11,11 @@ use Rattle.rules.specs.declared.security.SecurityFields.{SecurityFields}
 use Rattle.rules.specs.Properties.{propertiesRow}
 use Rattle.rules.specs.Row.{fieldBytes, rowBytes}
 use Rattle.rules.specs.Security.{securityRow}
-use Rattle.writing.specs.Fixed.{propertiesHead, propertiesTail, PropertiesSized, SecuritySized}
-use Rattle.writing.specs.Given.{Given, fixed, propertiesGiven, securityGiven}
-use Rattle.writing.specs.Laid.{PropertiesLaid, SecurityLaid}
-use Rattle.writing.specs.Writing.{paddedPart, propertiesBytes, propertiesFixed, securityFixed}
-use Rattle.writing.proofs.Laws.Row.{length-unpadded}
+use Rattle.writing.specs.Fixed.{propertiesHead, propertiesTail}
+use Rattle.writing.specs.Given.{fixed}
+use Rattle.writing.specs.Laid.{partsLength}
+use Rattle.writing.specs.Writing.{paddedPart, securityPartsBytes}
+use Rattle.writing.proofs.Laws.Row.{length-paddedPart}
 
 pub five : (a b c d e : List ℕ) → (((a ++ b) ++ c) ++ d) ++ e ≡ a ++ (b ++ (c ++ (d ++ e)))
 five a b c d e = simp append-assoc
@@ -24,31 +24,34 @@ pub length-securityRow : (f : SecurityFields) → length (rowBytes securityRow f
 unfolding rowBytes securityRow fieldBytes toLe
 length-securityRow f = refl
 
-pub security-fixed : (g : Given) (f : SecurityFields) → f ≡ securityGiven g → rowBytes securityRow f ≡ securityFixed g
-unfolding securityFixed
-security-fixed g f e = ap (rowBytes securityRow) e
+pub length-securityParts : (i k s c p : List ℕ) → length (securityPartsBytes i k s c p) ≡ partsLength i k s c p
+unfolding securityPartsBytes
+length-securityParts i k s c p = simp (length-append, length-paddedPart) (omega arith)
 
--- each number fits its bytes
-pub security-sized : (g : Given) (f : SecurityFields) (out : List ℕ) → f ≡ securityGiven g
-    → SecurityLaid (g .senderId) (g .encryptionKey) (g .signature) (g .senderCert) (g .providerInfo) out → SecuritySized f
-unfolding securityGiven
-security-sized g f out e l =
-    subst SecuritySized (sym e)
-    (record {
-      flags = omega arith;
-      identity = l .identity;
-      key = l .key;
-      signature = l .signature;
-      cert = l .cert;
-      provider = l .provider;
-    })
+-- the fields stored one behind the other are the row
+pub security-stored : (f : SecurityFields)
+    → ((((([] ++ toLe 2 (f .flags)) ++ toLe 2 (f .«sender_id_size» .0)) ++ toLe 2 (f .«encryption_key_size» .0))
+    ++ toLe 2 (f .«signature_size» .0)) ++ toLe 4 (f .«sender_cert_size» .0))
+    ++ toLe 4 (f .«provider_info_size» .0)
+    ≡ rowBytes securityRow f
+unfolding rowBytes securityRow fieldBytes
+security-stored f = simp (append-assoc, append-nil)
 
-pub properties-sized : (g : Given) (f : PropertiesFields) (out : List ℕ) → f ≡ propertiesGiven g
-    → PropertiesLaid (g .label) (g .extension) (g .body) (g .values .«allocation_body_size» .0) out → PropertiesSized f
-unfolding propertiesGiven
-properties-sized g f out e l =
-    subst PropertiesSized (sym e)
-    (record { label = omega arith; body = l .body; allocation = l .allocation; extension = l .extension })
+pub head-stored : (f : PropertiesFields) (id : List ℕ) (tag : ℕ)
+    → ((((([] ++ toLe 1 (f .flags)) ++ toLe 1 (f .«label_length» .0)) ++ toLe 2 (f .«message_class»)) ++ id)
+    ++ toLe 4 (f .«body_type»))
+    ++ toLe 4 tag
+    ≡ propertiesHead (fixed f id tag)
+unfolding propertiesHead rowBytes propertiesRow fieldBytes
+head-stored f id tag = simp (append-assoc, append-nil)
+
+pub tail-stored : (f : PropertiesFields)
+    → ((((([] ++ toLe 4 (f .«message_size» .0)) ++ toLe 4 (f .«allocation_body_size» .0)) ++ toLe 4 (f .«privacy_level»))
+    ++ toLe 4 (f .«hash_algorithm»)) ++ toLe 4 (f .«encryption_algorithm»))
+    ++ toLe 4 (f .«extension_size» .0)
+    ≡ propertiesTail (fixed f [] 0)
+unfolding propertiesTail rowBytes propertiesRow fieldBytes
+tail-stored f = simp (append-assoc, append-nil)
 
 pub length-propertiesHead : (f : PropertiesFields) (id : List ℕ) (tag : ℕ) → length id ≡ 20
     → length (propertiesHead (fixed f id tag)) ≡ 32
@@ -59,20 +62,24 @@ pub length-propertiesTail : (f : PropertiesFields) → length (propertiesTail (f
 unfolding propertiesTail rowBytes propertiesRow fieldBytes toLe
 length-propertiesTail f = refl
 
-properties-fixed : (g : Given)
-    → propertiesHead (fixed (propertiesGiven g) (g .correlationId) (g .values .«application_tag»))
-    ++ propertiesTail (fixed (propertiesGiven g) [] 0)
-    ≡ propertiesFixed g
-unfolding propertiesHead propertiesTail propertiesFixed rowBytes propertiesRow fieldBytes
-properties-fixed g = simp append-assoc
+properties-fixed : (f : PropertiesFields) (id : List ℕ) (tag : ℕ)
+    → propertiesHead (fixed f id tag) ++ propertiesTail (fixed f [] 0) ≡ rowBytes propertiesRow (fixed f id tag)
+unfolding propertiesHead propertiesTail rowBytes propertiesRow fieldBytes
+properties-fixed f id tag = simp append-assoc
+
+length-propertiesRow : (f : PropertiesFields) (id : List ℕ) (tag : ℕ) → length id ≡ 20
+    → length (rowBytes propertiesRow (fixed f id tag)) ≡ 56
+unfolding rowBytes propertiesRow fieldBytes toLe
+length-propertiesRow f id tag e = simp (length-append, e)
 
 -- the rows, the parts and the padding
-pub properties-bytes : (g : Given) (f : PropertiesFields) (zeros : ℕ) → length (g .correlationId) ≡ 20 → f ≡ propertiesGiven g
-    → zeros ≡ padding 4 (56 + length (g .label) + length (g .extension) + length (g .body))
-    → ((propertiesHead (fixed f (g .correlationId) (g .values .«application_tag»)) ++ propertiesTail (fixed f [] 0))
-    ++ (g .label ++ (g .extension ++ g .body)))
-    ++ replicate zeros 0
-    ≡ propertiesBytes g
-unfolding propertiesBytes paddedPart
-properties-bytes g f zeros e ef ez =
-    rw (ef, properties-fixed g, ez, length-unpadded g e)
+pub properties-bytes : (f : PropertiesFields) (id : List ℕ) (tag zeros : ℕ) (label extension body : List ℕ) → length id ≡ 20
+    → zeros ≡ padding 4 (56 + length label + length extension + length body)
+    → ((propertiesHead (fixed f id tag) ++ propertiesTail (fixed f [] 0)) ++ (label ++ (extension ++ body))) ++ replicate zeros 0
+    ≡ paddedPart (rowBytes propertiesRow (fixed f id tag) ++ (label ++ (extension ++ body)))
+unfolding paddedPart
+properties-bytes f id tag zeros label extension body e ez =
+    let all = rowBytes propertiesRow (fixed f id tag) ++ (label ++ (extension ++ body)) in
+    let size : length all ≡ 56 + length label + length extension + length body =
+    simp (length-append, length-propertiesRow f id tag e) (omega arith) in
+    rw (properties-fixed f id tag, ez, size)

@@ -17,7 +17,7 @@ use Rattle.rules.specs.Security.{ST, certAt, identityHead, identitySize, keyAt,
 use Rattle.rules.specs.declared.security.SecurityFields.{SecurityFields}
 use Rattle.rules.proofs.Laws.Accepted.{identity-le}
 use Rattle.rules.proofs.Laws.Judged.{judgedIdentity-le}
-use Rattle.writing.specs.Given.{Given, propertiesGiven, securityGiven}
+use Rattle.writing.specs.Given.{Given, propertiesFrom, propertiesGiven, securityFrom, securityGiven}
 use Rattle.writing.specs.Theorems.{hidden}
 use Rattle.writing.specs.Writing.{propertiesBytes, securityBytes}
 use Rattle.writing.proofs.Laws.PropertiesShown.{PropertiesOf, properties-shown}
@@ -26,7 +26,7 @@ use Rattle.writing.proofs.Laws.Shown.{Shown, shown-append, shown-judged
 
 -- hiding keeps the fields
 pub hidden-security : (g : Given) → securityGiven (hidden g) ≡ securityGiven g
-unfolding securityGiven hidden
+unfolding securityFrom hidden
 hidden-security g =
     let n = judgedIdentity (securityGiven g) in
     let l : n ≤ length (g .senderId) = judgedIdentity-le (securityGiven g) in
@@ -35,13 +35,13 @@ hidden-security g =
     simp (e, length-replicate)
 
 pub hidden-properties : (g : Given) → propertiesGiven (hidden g) ≡ propertiesGiven g
-unfolding propertiesGiven hidden
+unfolding propertiesFrom hidden
 hidden-properties g = simp length-replicate
 
 -- the SecurityHeader
 pub security-hidden : (g : Given) (s : List ℕ) → Octets s → SecurityOf g s
     → Shown (securityBits 0 (securityGiven g)) (securityBytes (hidden g)) s 0
-unfolding securityBits partBits hidden securityGiven securityParts securityLength providerAt certAt signatureAt keyAt padded
+unfolding securityBits partBits hidden securityFrom securityParts securityLength providerAt certAt signatureAt keyAt padded
 security-hidden g s b a =
     let f = securityGiven g in
     let n = judgedIdentity f in
@@ -63,7 +63,7 @@ security-hidden g s b a =
 -- the MessagePropertiesHeader
 pub properties-hidden : (g : Given) (s : List ℕ) (p : ℕ) → Octets s → PropertiesOf g s p
     → Shown (propertiesBits 0 (propertiesGiven g)) (propertiesBytes (hidden g)) s p
-unfolding propertiesBits hidden propertiesGiven propertiesLength padded extensionAt bodyAt propertiesParts toLe
+unfolding propertiesBits hidden propertiesFrom propertiesLength padded extensionAt bodyAt propertiesParts toLe
 properties-hidden g s p b a =
     let f = propertiesGiven g in
     let room = a .room in
@@ -77,7 +77,7 @@ properties-hidden g s p b a =
 -- the judged identity bytes stay
 identity-kept : (g : Given) (i : ℕ) → i < judgedIdentity (securityGiven g)
     → getD (hidden g .senderId) i 0 ≡ getD (g .senderId) i 0
-unfolding hidden securityGiven
+unfolding hidden securityFrom
 identity-kept g i h =
     let n = judgedIdentity (securityGiven g) in
     let zeros : List ℕ = replicate (length (g .senderId) - n) 0 in

@@ -1,80 +1,93 @@
--- What a section that is placed needs to be written: it is as long as was placed, each number fits its bytes, and where the output is as long there is room.
+-- What a section that no step refuses needs to be written: it is as long as its layout, each number fits its bytes, and where the output is as long there is room.
 use Prim.Native.Nat.{ℕ, _+_, _≤_}
-use mathlib.Core.Path.{_≡_, sym, ap, subst, _∙_}
+use mathlib.Core.Path.{_≡_, refl, subst}
 use mathlib.Core.Bool.{Bool, _||_}
 use mathlib.Core.List.{List}
 use native.Mathlib.Omega.{arith}
 use borrow.Author.Tests.{ltb-false}
-use lib.ListN.{length, length-append, length-drop}
+use lib.ListN.{length, length-append}
 use lib.Dec.{ltb}
-use Rattle.octets.specs.declared.count.Bytes.{Bytes}
 use Rattle.rules.specs.Security.{ST, certAt, keyAt, providerAt, securityLength, securityParts, signatureAt}
 use Rattle.rules.specs.Properties.{propertiesParts}
-use Rattle.rules.proofs.Laws.Accepted.{identity-small, neither, properties-fits, security-fits}
+use Rattle.rules.proofs.Laws.Accepted.{PropertiesFits, SecurityFits, identity-small, neither, properties-fits, security-fits}
 use Rattle.rules.proofs.Laws.Layout.{properties-sizes, security-sizes}
-use Rattle.writing.specs.Given.{Given, propertiesGiven, securityGiven}
-use Rattle.writing.specs.Laid.{PropertiesLaid, SectionLaid, SecurityLaid}
-use Rattle.writing.specs.Writing.{placeEnd, placeProperties, sectionBytes, tooLarge}
-use Rattle.writing.specs.declared.values.Placed.the-variants.{At}
-use Rattle.writing.proofs.Laws.Placed.{HeaderPlaced, SectionPlaced, SecurityPlaced, end-placed, start-placed, startOf}
+use Rattle.writing.specs.Fixed.{PropertiesSized, SecuritySized}
+use Rattle.writing.specs.Given.{Given, propertiesFrom, propertiesGiven, securityFrom, securityGiven}
+use Rattle.writing.specs.Laid.{SectionLaid, partsLength}
+use Rattle.writing.specs.Writing.{layoutLength, sectionBytes, startOf, tooLarge, writeRefusal}
+use Rattle.writing.proofs.Laws.Placed.{HeaderPlaced, PropertiesPlaced, SectionPlaced, SecurityPlaced, section-placed}
 use Rattle.writing.proofs.Laws.Row.{length-given, length-headerBytes, length-propertiesBytes}
 
--- as many bytes as were placed
-pub length-section : (g : Given) (n : ℕ) → length (g .correlationId) ≡ 20 → SectionPlaced (g .values .«security_first») g n
-    → length (sectionBytes g) ≡ n
+-- as many bytes as the layout has
+pub length-section : (g : Given) → length (g .correlationId) ≡ 20 → writeRefusal g .number ≡ 0
+    → length (sectionBytes g) ≡ layoutLength g
 unfolding sectionBytes
-length-section g n twenty a =
-    simp (length-append, length-headerBytes, length-propertiesBytes g twenty (a .even)) (sym (a .size))
+length-section g twenty e =
+    simp (length-append, length-headerBytes, length-propertiesBytes g twenty (section-placed g .0 e .properties .even))
 
-security-laid : (g : Given) (out : List ℕ) → SecurityPlaced g → securityLength (securityGiven g) ≤ length out
-    → SecurityLaid (g .senderId) (g .encryptionKey) (g .signature) (g .senderCert) (g .providerInfo) out
-unfolding tooLarge securityGiven securityLength providerAt certAt signatureAt keyAt
-security-laid g out a h =
+-- what S5 to S8 ask, and what P2, P4 and P5 ask
+pub placed-fits : {g : Given} → SecurityPlaced g → SecurityFits (securityGiven g) (securityParts (securityGiven g))
+placed-fits {g} a = security-fits (securityGiven g) (securityParts (securityGiven g)) (a .steps) (a .small) refl
+
+pub end-fits : {p : ℕ} {g : Given} → PropertiesPlaced p g
+    → PropertiesFits (propertiesGiven g) p (propertiesParts p (propertiesGiven g))
+end-fits {p} {g} a = properties-fits (propertiesGiven g) p (propertiesParts p (propertiesGiven g)) (a .steps) (a .small) refl
+
+-- sizes that passed fit their fields
+pub security-sized : (g : Given) → SecurityPlaced g → SecuritySized (securityGiven g)
+unfolding tooLarge securityFrom
+security-sized g a =
     let f = securityGiven g in
     let key = ltb 65535 (length (g .encryptionKey)) in
     let signature = ltb 65535 (length (g .signature)) in
-    let some = neither (key || signature) (ltb 65535 (length (g .senderCert))) (a .small) in
+    let some = neither (key || signature) (ltb 65535 (length (g .senderCert))) (a .large) in
     let both = neither key signature (some .0) in
-    let fits = security-fits f 0 (securityParts f) (a .fits) in
+    let fits = placed-fits a in
     let sizes = security-sizes f in
     record {
+      flags = omega arith;
       identity = omega (arith, identity-small (ST f) (length (g .senderId)) (fits .identity));
       key = omega (arith, ltb-false 65535 (length (g .encryptionKey)) (both .0));
       signature = omega (arith, ltb-false 65535 (length (g .signature)) (both .1));
       cert = omega (arith, ltb-false 65535 (length (g .senderCert)) (some .1));
       provider = omega (arith, fits .small, sizes);
-      room = omega arith;
     }
 
-properties-laid : (first : Bool) (g : Given) (n : ℕ) (out : List ℕ) → SectionPlaced first g n → n ≤ startOf first g + length out
-    → PropertiesLaid (g .label) (g .extension) (g .body) (g .values .«allocation_body_size» .0) out
-unfolding propertiesGiven
-properties-laid first g n out a h =
-    let f = propertiesGiven g in
-    let fits = properties-fits f (startOf first g) (propertiesParts (startOf first g) f) (a .fits) in
-    let sizes = properties-sizes f in
-    let size = length-given g (a .even) in
+pub properties-sized : {p : ℕ} (g : Given) → PropertiesPlaced p g → PropertiesSized (propertiesGiven g)
+properties-sized g a =
+    let fits = end-fits a in
+    let sizes = properties-sizes (propertiesGiven g) in
     record {
-      label = omega (arith, fits .label, a .even);
-      extension = omega (arith, fits .small, sizes .extension);
+      label = omega (arith, fits .label);
       body = omega (arith, fits .small, sizes .body);
       allocation = omega (arith, fits .allocation);
-      room = omega (arith, a .size);
+      extension = omega (arith, fits .small, sizes .extension);
     }
 
-pub section-laid : (g : Given) (p n : Bytes) (out : List ℕ) → placeProperties g ≡ At p → placeEnd g (At p) ≡ At n
-    → n .0 ≤ length out → SectionLaid g (p .0) out
-section-laid g p n out e e' h =
+-- the SecurityHeader's parts have room
+parts-room : (g : Given) (n : ℕ) → securityLength (securityGiven g) ≤ n
+    → 16 + partsLength (g .senderId) (g .encryptionKey) (g .signature) (g .senderCert) (g .providerInfo) ≤ n
+unfolding securityFrom securityLength providerAt certAt signatureAt keyAt
+parts-room g n h = omega arith
+
+-- a label that passed P2
+pub label-small : {p : ℕ} (g : Given) → PropertiesPlaced p g → length (g .label) ≤ 500
+unfolding propertiesFrom
+label-small g a = omega (arith, end-fits a .label, a .even)
+
+pub section-laid : (g : Given) (out : List ℕ) → writeRefusal g .number ≡ 0 → layoutLength g ≤ length out
+    → SectionLaid g (startOf (g .values .«security_first») (securityGiven g)) out
+section-laid g out e room =
     let first = g .values .«security_first» in
-    let a = end-placed g (At p) (n .0) e e' in
-    let start : p .0 ≡ startOf first g = ap (λ (b : Bytes). b .0) (start-placed g p e) in
-    let within : p .0 ≤ length out = omega (arith, a .size) in
+    let a = section-placed g .0 e in
+    let size = length-given g (a .properties .even) in
     record {
-      security =
+      security = λ is. security-sized g (subst (λ (b : Bool). HeaderPlaced b g) is (a .security));
+      parts =
           λ is.
-          security-laid g out (subst (λ (b : Bool). HeaderPlaced b g) is (a .security))
-          (subst (λ (b : Bool). startOf b g ≤ length out) is (omega arith));
-      start = length-headerBytes first g ∙ sym start;
-      within = within;
-      properties = properties-laid first g (n .0) _ a (rw length-drop (omega arith));
+          parts-room g (length out) (subst (λ (b : Bool). startOf b (securityGiven g) ≤ length out) is (omega arith));
+      start = length-headerBytes first g;
+      label = label-small g (a .properties);
+      properties = properties-sized g (a .properties);
+      room = omega arith;
     }

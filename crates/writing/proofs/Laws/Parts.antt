@@ -10,7 +10,7 @@ use Rattle.octets.proofs.Laws.Part.{drop-next, within-row}
 use Rattle.rules.specs.Properties.{bodyAt, extensionAt, propertiesParts}
 use Rattle.rules.specs.Security.{certAt, keyAt, providerAt, securityParts, signatureAt}
 use Rattle.rules.specs.Summary.{partOf}
-use Rattle.writing.specs.Given.{Given, propertiesGiven, securityGiven}
+use Rattle.writing.specs.Given.{Given, propertiesFrom, propertiesGiven, securityFrom, securityGiven}
 use Rattle.writing.specs.Writing.{paddedPart, propertiesBytes, propertiesFixed, securityBytes, securityFixed}
 use Rattle.writing.proofs.Laws.Row.{lastPadding, length-paddedPart, length-propertiesFixed, length-securityFixed, properties-row, security-row}
 
@@ -36,7 +36,7 @@ pub record SecurityPartsIn (g : Given) (s : List ℕ) : Type 0 where
 
 -- so they do in what is written
 pub securityParts-written : (g : Given) (rest : List ℕ) → SecurityPartsIn g (securityBytes g ++ rest)
-unfolding securityParts securityGiven providerAt certAt signatureAt keyAt
+unfolding securityParts securityFrom providerAt certAt signatureAt keyAt
 securityParts-written g rest =
     let s = securityBytes g ++ rest in
     let provider = paddedPart (g .providerInfo) ++ rest in
@@ -67,7 +67,7 @@ pub record PropertiesPartsAt (g : Given) (s : List ℕ) (p : ℕ) : Type 0 where
 -- so they do in what is written
 pub propertiesParts-written : (g : Given) (s rest : List ℕ) (p : ℕ)
     → length (g .correlationId) ≡ 20 → length (g .label) % 2 ≡ 0 → drop p s ≡ propertiesBytes g ++ rest → PropertiesPartsAt g s p
-unfolding propertiesParts propertiesGiven extensionAt bodyAt
+unfolding propertiesParts propertiesFrom extensionAt bodyAt
 propertiesParts-written g s rest p c even row =
     let body = g .body ++ (lastPadding g ++ rest) in
     let extension = g .extension ++ body in

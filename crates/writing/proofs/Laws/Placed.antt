@@ -1,135 +1,133 @@
--- What values and parts have passed where a section is written, and that a section is written where they passed.
-use Prim.Native.Nat.{ℕ, _+_, _%_}
-use mathlib.Core.Path.{_≡_, refl, sym, ap, subst, _∙_}
+-- What values and parts have passed where no step but 13 refuses them, and that none refuses where they passed.
+use Prim.Native.Nat.{ℕ, suc, _+_, _%_, _≤_}
+use mathlib.Core.Path.{_≡_, refl}
 use mathlib.Core.Logic.{_↔_}
 use mathlib.Core.Bool.{Bool, true, false, not, cond}
 use native.Mathlib.Omega.{arith}
-use borrow.Author.Tests.{eq-eqb, eqb-true, not-false}
+use borrow.Author.Tests.{eq-eqb, eqb-false, eqb-true, le-ltb, ltb-false, not-false}
 use lib.ListN.{length}
-use lib.Dec.{eqb}
-use Rattle.rules.specs.Properties.{labelContents, propertiesLength, propertiesParts, propertiesSteps}
-use Rattle.rules.specs.Refusal.{bytes, refusal}
-use Rattle.rules.specs.Security.{securityContents, securityLength, securityParts, securitySteps}
-use Rattle.rules.specs.declared.refusal.Checked.{Checked}
-use Rattle.rules.specs.declared.refusal.Checked.the-variants.{Passed, Refused as Checked·Refused}
+use lib.Dec.{eqb, ltb}
+use Rattle.rules.specs.Properties.{labelContents, labelText, propertiesLength, propertiesSteps}
+use Rattle.rules.specs.Refusal.{bytes, limit, refusal}
+use Rattle.rules.specs.Security.{identityHead, providerText, securityContents, securityLength, securitySteps}
 use Rattle.rules.specs.declared.refusal.Refusal.{Refusal}
-use Rattle.rules.specs.declared.properties.PropertiesLayout.{PropertiesLayout}
-use Rattle.rules.specs.declared.properties.PropertiesLayout.the-variants.{Fits as Properties·Fits, Refused as Properties·Refused}
-use Rattle.rules.specs.declared.security.SecurityLayout.{SecurityLayout}
-use Rattle.rules.specs.declared.security.SecurityLayout.the-variants.{Fits, Refused as Layout·Refused}
 use Rattle.octets.specs.declared.count.Bytes.{Bytes}
-use Rattle.rules.proofs.Laws.Accepted.{passed, properties-fits, security-fits}
+use Rattle.rules.proofs.Laws.Accepted.{first-next, first-passed, passed}
 use Rattle.writing.specs.Given.{Given, propertiesGiven, securityGiven}
-use Rattle.writing.specs.Writing.{afterContents, afterPropertiesSteps, afterSecuritySteps, placeEnd, placeProperties, placeSection, tooLarge}
-use Rattle.writing.specs.declared.values.Placed.{Placed}
-use Rattle.writing.specs.declared.values.Placed.the-variants.{At, Refused}
+use Rattle.writing.specs.Writing.{endNumber, headerNumber, judgeGiven, startOf, tooLarge, writeRefusal, writeSecurity}
 
--- what a SecurityHeader that would be written has passed: 28, S2 to S8, S10 and S11
+-- what a SecurityHeader that would be written has passed: 28, S2 to S7, S8, S10, S11
 pub record SecurityPlaced (g : Given) : Type 0 where
-  pub small : tooLarge g ≡ false
-  pub fits : securitySteps (securityGiven g) 0 ≡ Fits (securityParts (securityGiven g))
-  pub contents : securityContents (securityGiven g) (g .senderId) (g .providerInfo) 0 ≡ Passed
+  pub large : tooLarge (securityGiven g) ≡ false
+  pub steps : securitySteps (securityGiven g) ≡ 0
+  pub small : securityLength (securityGiven g) ≤ limit
+  pub identity : identityHead (securityGiven g) (g .senderId) ≡ true
+  pub provider : providerText (g .providerInfo) ≡ true
 
 -- the SecurityHeader, where one would stand first
 abbrev pub HeaderPlaced : Bool → Given → Type 0
 HeaderPlaced true g = SecurityPlaced g
 HeaderPlaced false g = Unit {0}
 
--- where the MessagePropertiesHeader would begin
-abbrev pub startOf : Bool → Given → ℕ
-startOf first g = cond first (securityLength (securityGiven g)) 0
-
--- what a section that would be written has passed: its SecurityHeader, P2 to P5, P7
-pub record SectionPlaced (first : Bool) (g : Given) (n : ℕ) : Type 0 where
-  pub security : HeaderPlaced first g
+-- what a MessagePropertiesHeader that would be written at p has passed: an even label, P2 to P4, P5, P7
+pub record PropertiesPlaced (p : ℕ) (g : Given) : Type 0 where
   pub even : length (g .label) % 2 ≡ 0
-  pub fits : propertiesSteps (propertiesGiven g) (startOf first g)
-      ≡ Properties·Fits (propertiesParts (startOf first g) (propertiesGiven g))
-  pub contents : labelContents (g .label) (startOf first g) ≡ Passed
-  pub size : n ≡ startOf first g + propertiesLength (propertiesGiven g)
+  pub steps : propertiesSteps (propertiesGiven g) ≡ 0
+  pub small : p + propertiesLength (propertiesGiven g) ≤ limit
+  pub label : labelText (g .label) ≡ true
 
--- a refusal is no place
-refused≢ : {r : Refusal} {n : Bytes} → ¬ (Refused r ≡ At n)
-refused≢ e = let z : _≡_ {A = ℕ} 0 1 = cc in omega arith
+pub record SectionPlaced (first : Bool) (g : Given) : Type 0 where
+  pub security : HeaderPlaced first g
+  pub properties : PropertiesPlaced (startOf first (securityGiven g)) g
 
--- placing a section, from its last step to its first
-contents-passed : (k : ℕ) (c : Checked) (n : Bytes) → afterContents k c ≡ At n → (c ≡ Passed) × (n ≡ bytes k)
-unfolding afterContents
-contents-passed k Passed n e = (refl, cc)
-contents-passed k (Checked·Refused r) n e = absurd (refused≢ e)
+-- a refusal's number is not 0
+some : (n : ℕ) → ¬ (suc n ≡ 0)
+some n e = omega arith
 
-security-steps : (g : Given) (l : SecurityLayout) (n : Bytes) → tooLarge g ≡ false → securitySteps (securityGiven g) 0 ≡ l
-    → afterSecuritySteps g l ≡ At n → SecurityPlaced g × (n ≡ bytes (securityLength (securityGiven g)))
-unfolding afterSecuritySteps securityParts
-security-steps g (Fits parts) n small fits e =
-    let c = contents-passed (parts .length .0) (securityContents (securityGiven g) (g .senderId) (g .providerInfo) 0) n e in
-    let f = security-fits (securityGiven g) 0 parts fits in
-    let r : SecurityPlaced g = record {
-      small = small;
-      fits = rw (f .layout) at fits;
-      contents = c .0;
-    } in
-    (r, rw (f .size) at (c .1))
-security-steps g (Layout·Refused r) n small fits e = absurd (refused≢ e)
-
--- the place behind a SecurityHeader, by its steps
-abbrev placeSecurity : Given → Placed
-placeSecurity g =
-    cond (tooLarge g) (Refused (refusal 28 0)) (afterSecuritySteps g (securitySteps (securityGiven g) 0))
-
-properties-placed : (first : Bool) (g : Given) (n : Bytes) → cond first (placeSecurity g) (At (bytes 0)) ≡ At n
-    → HeaderPlaced first g × (n ≡ bytes (startOf first g))
-properties-placed true g n e =
-    let c = passed (tooLarge g) refused≢ e in
-    security-steps g (securitySteps (securityGiven g) 0) n (c .0) refl (c .1)
-properties-placed false g n e = (tt, cc)
-
-pub start-placed : (g : Given) (p : Bytes) → placeProperties g ≡ At p → p ≡ bytes (startOf (g .values .«security_first») g)
-unfolding placeProperties
-start-placed g p e = properties-placed (g .values .«security_first») g p e .1
-
-properties-steps : (first : Bool) (g : Given) (l : PropertiesLayout) (n : ℕ) → HeaderPlaced first g
-    → length (g .label) % 2 ≡ 0 → propertiesSteps (propertiesGiven g) (startOf first g) ≡ l
-    → afterPropertiesSteps g (startOf first g) l ≡ At (bytes n) → SectionPlaced first g n
-unfolding afterPropertiesSteps propertiesParts
-properties-steps first g (Properties·Fits parts) n security even fits e =
-    let c = contents-passed (parts .«section_length» .0) (labelContents (g .label) (startOf first g)) (bytes n) e in
-    let f = properties-fits (propertiesGiven g) (startOf first g) parts fits in
-    record {
-      security = security;
-      even = even;
-      fits = rw (f .layout) at fits;
-      contents = c .0;
-      size = ap (λ (x : Bytes). x .0) (c .1) ∙ f .size;
-    }
-properties-steps first g (Properties·Refused r) n security even fits e = absurd (refused≢ e)
-
-pub end-placed : (g : Given) (q : Placed) (n : ℕ) → placeProperties g ≡ q → placeEnd g q ≡ At (bytes n)
-    → SectionPlaced (g .values .«security_first») g n
-unfolding placeProperties placeEnd
-end-placed g (At p) n start e =
-    let first = g .values .«security_first» in
-    let h = properties-placed first g p start in
-    let e = subst (λ (p : Bytes). placeEnd g (At p) ≡ At (bytes n)) (h .1) e in
-    let odd = passed (not (eqb (length (g .label) % 2) 0)) refused≢ e in
-    properties-steps first g (propertiesSteps (propertiesGiven g) (startOf first g)) n (h .0)
-    (eqb-true (length (g .label) % 2) 0 (not-false (eqb (length (g .label) % 2) 0) (odd .0))) refl (odd .1)
-end-placed g (Refused r) n start e = absurd (refused≢ e)
-
--- and back
-header-placed : (g : Given) (first : Bool) → g .values .«security_first» ≡ first → HeaderPlaced first g
-    → placeProperties g ≡ At (bytes (startOf first g))
-unfolding placeProperties afterSecuritySteps afterContents securityParts
-header-placed g true e a = rw (a .small, a .fits, a .contents, e)
-header-placed g false e a = rw e
-
--- a section is written exactly where its values and parts have passed
-pub section-placed : (g : Given) (n : ℕ) → (placeSection g ≡ At (bytes n)) ↔ SectionPlaced (g .values .«security_first») g n
-unfolding placeSection placeEnd afterPropertiesSteps afterContents propertiesParts
-section-placed g n = (
-  end-placed g (placeProperties g) n refl,
+header-number : (first : Bool) (g : Given)
+    → (headerNumber first (securityGiven g) (g .senderId) (g .providerInfo) ≡ 0) ↔ HeaderPlaced first g
+unfolding headerNumber writeSecurity securityContents
+header-number true g = (
+  λ e.
+      let f = securityGiven g in
+      let s2 = passed (tooLarge f) 28 (some 27) e in
+      let s8 = first-passed (securitySteps f) (s2 .1) in
+      let s10 = passed (ltb limit (securityLength f)) 8 (some 7) (s8 .1) in
+      let s11 = passed (not (identityHead f (g .senderId))) 6 (some 5) (s10 .1) in
+      let end = passed (not (providerText (g .providerInfo))) 7 (some 6) (s11 .1) in
+      record {
+        large = s2 .0;
+        steps = s8 .0;
+        small = ltb-false limit (securityLength f) (s10 .0);
+        identity = not-false (identityHead f (g .senderId)) (s11 .0);
+        provider = not-false (providerText (g .providerInfo)) (end .0);
+      },
   λ a.
-      let start = header-placed g (g .values .«security_first») refl (a .security) in
-      rw (start, eq-eqb (length (g .label) % 2) 0 (a .even), a .fits, a .contents)
-      (ap (λ (k : ℕ). At (bytes k)) (sym (a .size))),
+      let f = securityGiven g in
+      let s8 = le-ltb limit (securityLength f) (a .small) in
+      rw (a .large, first-next (securitySteps f) _ (a .steps), s8, a .identity, a .provider),
 )
+header-number false g = (λ e. tt, λ a. refl)
+
+-- then the MessagePropertiesHeader begins within the limit
+pub header-start : (first : Bool) (g : Given) → headerNumber first (securityGiven g) (g .senderId) (g .providerInfo) ≡ 0
+    → startOf first (securityGiven g) ≤ limit
+header-start true g e = header-number true g .0 e .small
+header-start false g e = omega arith
+
+end-number : (p : ℕ) (g : Given) → (endNumber p (propertiesGiven g) (g .label) ≡ 0) ↔ PropertiesPlaced p g
+unfolding endNumber labelContents
+end-number p g = (
+  λ e.
+      let f = propertiesGiven g in
+      let units = eqb (length (g .label) % 2) 0 in
+      let p2 = passed (not units) 9 (some 8) e in
+      let p5 = first-passed (propertiesSteps f) (p2 .1) in
+      let p7 = passed (ltb limit (p + propertiesLength f)) 8 (some 7) (p5 .1) in
+      let end = passed (not (labelText (g .label))) 12 (some 11) (p7 .1) in
+      record {
+        even = eqb-true (length (g .label) % 2) 0 (not-false units (p2 .0));
+        steps = p5 .0;
+        small = ltb-false limit (p + propertiesLength f) (p7 .0);
+        label = not-false (labelText (g .label)) (end .0);
+      },
+  λ a.
+      let f = propertiesGiven g in
+      let even = eq-eqb (length (g .label) % 2) 0 (a .even) in
+      let p5 = le-ltb limit (p + propertiesLength f) (a .small) in
+      rw (even, first-next (propertiesSteps f) _ (a .steps), p5, a .label),
+)
+
+-- where the MessagePropertiesHeader begins, and the number of the step on the SecurityHeader that fails
+abbrev start : Given → ℕ
+start g = startOf (g .values .«security_first») (securityGiven g)
+
+abbrev number : Given → ℕ
+number g = headerNumber (g .values .«security_first») (securityGiven g) (g .senderId) (g .providerInfo)
+
+-- no step but 13 refuses exactly what has passed
+pub section-placed : (g : Given) → (writeRefusal g .number ≡ 0) ↔ SectionPlaced (g .values .«security_first») g
+unfolding judgeGiven
+section-placed g = (
+  λ e.
+      let both = go (number g) (eqb (number g) 0) refl e in
+      record {
+        security = header-number (g .values .«security_first») g .0 (both .0);
+        properties = end-number (start g) g .0 (both .1);
+      },
+  λ a.
+      rw (eq-eqb (number g) 0 (header-number (g .values .«security_first») g .1 (a .security)))
+      (end-number (start g) g .1 (a .properties)),
+)
+  where
+    go : (n : ℕ) (b : Bool) → eqb n 0 ≡ b
+        → cond b (refusal (endNumber (start g) (propertiesGiven g) (g .label)) (start g)) (refusal n 0) .number ≡ 0
+        → (n ≡ 0) × (endNumber (start g) (propertiesGiven g) (g .label) ≡ 0)
+    go n true f e = (eqb-true n 0 f, e)
+    go n false f e = absurd (eqb-false n 0 f e)
+
+-- and then its place is where the MessagePropertiesHeader begins
+pub start-placed : (g : Given) → writeRefusal g .number ≡ 0 → writeRefusal g .place ≡ bytes (start g)
+unfolding judgeGiven
+start-placed g e =
+    rw (eq-eqb (number g) 0 (header-number (g .values .«security_first») g .1 (section-placed g .0 e .security)))

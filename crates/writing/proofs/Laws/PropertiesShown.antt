@@ -13,7 +13,7 @@ use Rattle.rules.specs.Row.{rowBits}
 use Rattle.rules.specs.declared.properties.PropertiesFields.{PropertiesFields}
 use Rattle.rules.proofs.Laws.Named.{properties-reads, properties-size}
 use Rattle.rules.proofs.Laws.Row.{keep}
-use Rattle.writing.specs.Given.{Given, fixed, propertiesGiven}
+use Rattle.writing.specs.Given.{Given, fixed, propertiesFrom, propertiesGiven}
 use Rattle.writing.specs.Writing.{propertiesBytes, propertiesFixed}
 use Rattle.writing.proofs.Laws.Parts.{PropertiesPartsAt}
 use Rattle.writing.proofs.Laws.Row.{length-propertiesFixed}
@@ -44,7 +44,7 @@ pub properties-shown : (bits : ℕ) (g other : Given) (s : List ℕ) (p : ℕ) �
     → Shown extension (other .extension) s (extensionAt p (propertiesGiven g))
     → Shown body (other .body) s (bodyAt p (propertiesGiven g))
     → Shown (propertiesMasks bits (propertiesGiven g) label extension body) (propertiesBytes other) s p
-unfolding propertiesBytes propertiesFixed propertiesGiven propertiesLength extensionAt bodyAt padded
+unfolding propertiesBytes propertiesFixed propertiesFrom propertiesLength extensionAt bodyAt padded
 properties-shown bits g other s p b a e even c t l x y =
     let f = propertiesGiven g in
     let h = drop p s in

@@ -1,61 +1,40 @@
 -- What is written is accepted, and read back.
 use Prim.Native.Nat.{ℕ, _+_, _≤_}
 use mathlib.Core.Path.{_≡_, refl, sym, ap, subst}
-use mathlib.Core.Bool.{Bool, true, false, _||_, false≢true}
+use mathlib.Core.Bool.{Bool, true, false, false≢true}
 use mathlib.Core.List.{List, _++_, append-assoc}
 use native.Mathlib.Omega.{arith}
-use borrow.Author.Tests.{ltb-false}
 use lib.ListN.{length, drop, length-append}
-use lib.Dec.{ltb}
 use lib.Seq.{drop-at}
 use Rattle.octets.specs.Padding.{padded}
 use Rattle.octets.proofs.Laws.Number.{length-toLe}
 use Rattle.rules.specs.Properties.{propertiesLength, propertiesParts, propertiesRow}
 use Rattle.rules.specs.Reading.{fullReading, read, securityHeader}
-use Rattle.rules.specs.Security.{ST, certAt, keyAt, providerAt, securityLength, securityParts, securityRow, signatureAt}
+use Rattle.rules.specs.Security.{certAt, keyAt, providerAt, securityLength, securityParts, securityRow, signatureAt}
 use Rattle.rules.specs.Summary.{labelOf, noSecurity, partOf, sectionOf, summaryOf}
 use Rattle.rules.specs.declared.section.Section.{Section}
 use Rattle.rules.specs.declared.section.Summary.{Summary}
 use Rattle.rules.specs.declared.security.SecurityHeader.{SecurityHeader}
-use Rattle.rules.proofs.Laws.Accepted.{HeaderPassed, SectionPassed, identity-small, neither, properties-fits, section-passed, security-fits}
-use Rattle.rules.proofs.Laws.Layout.{properties-sizes, security-sizes}
+use Rattle.rules.proofs.Laws.Accepted.{HeaderPassed, SectionPassed, section-passed}
 use Rattle.rules.proofs.Laws.Row.{FieldFits, Fits}
-use Rattle.writing.specs.Given.{Given, propertiesGiven, securityGiven}
+use Rattle.writing.specs.Given.{Given, propertiesFrom, propertiesGiven, securityFrom, securityGiven}
 use Rattle.writing.specs.Theorems.{ReadsBack, WellFormed}
-use Rattle.writing.specs.Writing.{propertiesBytes, sectionBytes, securityBytes, tooLarge}
+use Rattle.writing.specs.Writing.{propertiesBytes, sectionBytes, securityBytes, startOf, writeRefusal}
 use Rattle.writing.proofs.Laws.Fields.{PropertiesHolds, SecurityHolds, correlation-written, propertiesFields-written, securityFields-written, tag-written}
+use Rattle.writing.proofs.Laws.Laid.{properties-sized, security-sized}
 use Rattle.writing.proofs.Laws.Parts.{PropertiesPartsAt, propertiesParts-written, securityParts-written}
-use Rattle.writing.proofs.Laws.Placed.{HeaderPlaced, SectionPlaced, SecurityPlaced, startOf}
+use Rattle.writing.proofs.Laws.Placed.{HeaderPlaced, PropertiesPlaced, SectionPlaced, SecurityPlaced, section-placed}
 use Rattle.writing.proofs.Laws.Row.{headerBytes, length-headerBytes, length-propertiesBytes, length-securityBytes}
-
--- where 28 passed, the sizes of key and signature fit two bytes
-tooLarge-sizes : (g : Given) → tooLarge g ≡ false → (length (g .encryptionKey) ≤ 65535) × (length (g .signature) ≤ 65535)
-unfolding tooLarge
-tooLarge-sizes g e =
-    let key = length (g .encryptionKey) in
-    let signature = length (g .signature) in
-    let sizes = neither (ltb 65535 key || ltb 65535 signature) (ltb 65535 (length (g .senderCert))) e .0 in
-    let both = neither (ltb 65535 key) (ltb 65535 signature) sizes in
-    (ltb-false 65535 key (both .0), ltb-false 65535 signature (both .1))
 
 -- sizes that passed fit their fields
 security-holds : (g : Given) → SecurityPlaced g → SecurityHolds g
-unfolding securityGiven securityRow Fits FieldFits
-security-holds g a =
-    let f = securityGiven g in
-    let fits = security-fits f 0 (securityParts f) (a .fits) in
-    let sizes = security-sizes f in
-    let small = tooLarge-sizes g (a .small) in
-    omega (arith, identity-small (ST f) (length (g .senderId)) (fits .identity))
+unfolding securityFrom securityRow Fits FieldFits
+security-holds g a = let sized = security-sized g a in omega arith
 
-properties-holds : (first : Bool) (g : Given) (n : ℕ) → WellFormed g → SectionPlaced first g n → PropertiesHolds g
-unfolding propertiesGiven propertiesRow Fits FieldFits
-properties-holds first g n w a =
-    let f = propertiesGiven g in
-    let p = startOf first g in
-    let fits = properties-fits f p (propertiesParts p f) (a .fits) in
-    let sizes = properties-sizes f in
-    omega (arith, w, length-toLe 4 (g .values .«application_tag»))
+properties-holds : {p : ℕ} (g : Given) → WellFormed g → PropertiesPlaced p g → PropertiesHolds g
+unfolding propertiesFrom propertiesRow Fits FieldFits
+properties-holds g w a =
+    let sized = properties-sized g a in omega (arith, w, length-toLe 4 (g .values .«application_tag»))
 
 -- the header read from the bytes written
 abbrev headerOf : Bool → Given → List ℕ → SecurityHeader
@@ -63,7 +42,7 @@ headerOf true g s = securityHeader s (securityParts (securityGiven g))
 headerOf false g s = noSecurity
 
 -- it ends where the layout has it
-header-start : (first : Bool) (g : Given) (s : List ℕ) → headerOf first g s .parts .length .0 ≡ startOf first g
+header-start : (first : Bool) (g : Given) (s : List ℕ) → headerOf first g s .parts .length .0 ≡ startOf first (securityGiven g)
 unfolding securityHeader securityParts noSecurity
 header-start true g s = refl
 header-start false g s = refl
@@ -79,9 +58,12 @@ header-read true g rest a =
     rw length-append (ap (λ (n : ℕ). n + length rest) (length-securityBytes g)) in
     record {
       fixed = omega arith;
-      fits = rw fields (a .fits);
+      steps = rw fields (a .steps);
+      small = rw fields (a .small);
       reaches = omega arith;
-      contents = rw (fields, parts .senderId, parts .providerInfo) (a .contents);
+      identity = rw (fields, parts .senderId) (a .identity);
+      provider = rw (parts .providerInfo) (a .provider);
+      parts = ap securityParts (sym fields);
       header = refl;
     }
 header-read false g rest a = refl
@@ -110,7 +92,7 @@ header-back true g rest a e =
     }
 header-back false g rest a e = absurd (false≢true e)
 
-module _ (first : Bool) (g : Given) (n : ℕ) (rest : List ℕ) (w : WellFormed g) (a : SectionPlaced first g n) where
+module _ (first : Bool) (g : Given) (rest : List ℕ) (w : WellFormed g) (a : SectionPlaced first g) where
   -- the section written, and what follows
   abbrev input : List ℕ
   input = headerBytes first g ++ (propertiesBytes g ++ rest)
@@ -118,56 +100,60 @@ module _ (first : Bool) (g : Given) (n : ℕ) (rest : List ℕ) (w : WellFormed 
   -- its summary
   abbrev summaryBack : Summary
   summaryBack =
-      summaryOf first (headerOf first g input) (propertiesGiven g) (propertiesParts (startOf first g) (propertiesGiven g))
+      summaryOf first (headerOf first g input) (propertiesGiven g) (propertiesParts (startOf first (securityGiven g)) (propertiesGiven g))
 
   -- the MessagePropertiesHeader and its parts are at their place
-  properties-behind : drop (startOf first g) input ≡ propertiesBytes g ++ rest
+  properties-behind : drop (startOf first (securityGiven g)) input ≡ propertiesBytes g ++ rest
   properties-behind =
-      drop-at (headerBytes first g) (propertiesBytes g ++ rest) (startOf first g) (length-headerBytes first g)
+      drop-at (headerBytes first g) (propertiesBytes g ++ rest) (startOf first (securityGiven g)) (length-headerBytes first g)
 
-  properties-parts : PropertiesPartsAt g input (startOf first g)
-  properties-parts = propertiesParts-written g input rest (startOf first g) (w .correlation) (a .even) properties-behind
+  properties-parts : PropertiesPartsAt g input (startOf first (securityGiven g))
+  properties-parts = propertiesParts-written g input rest (startOf first (securityGiven g)) (w .correlation)
+      (a .properties .even) properties-behind
 
   -- and it has passed what the reader asks
   section-read : SectionPassed first input summaryBack
   unfolding summaryOf labelOf propertiesParts propertiesLength padded
   section-read =
       let start = header-start first g input in
-      let fields = propertiesFields-written g rest (properties-holds first g n w a) in
-      let size : length input ≡ startOf first g + (propertiesLength (propertiesGiven g) + length rest) =
-      simp (length-append, length-headerBytes, length-propertiesBytes g (w .correlation) (a .even)) in
+      let fields = propertiesFields-written g rest (properties-holds g w (a .properties)) in
+      let size : length input ≡ startOf first (securityGiven g) + (propertiesLength (propertiesGiven g) + length rest) =
+      simp (length-append, length-headerBytes, length-propertiesBytes g (w .correlation) (a .properties .even)) in
       record {
         security = header-read first g (propertiesBytes g ++ rest) (a .security);
         properties =
             record {
               fixed = omega arith;
-              fits = rw start (a .fits);
+              steps = a .properties .steps;
+              small = rw start (a .properties .small);
               reaches = omega arith;
-              contents = rw (start, properties-parts .label) (a .contents);
+              label = rw (properties-parts .label) (a .properties .label);
+              parts = ap (λ (p : ℕ). propertiesParts p (propertiesGiven g)) (sym start);
               summary = rw (start, properties-behind, fields);
             };
       }
 
 -- the full reading of what is written, whatever follows
-pub section-back : (g : Given) (n : ℕ) (rest : List ℕ) → WellFormed g → SectionPlaced (g .values .«security_first») g n
+pub section-back : (g : Given) (rest : List ℕ) → WellFormed g → writeRefusal g .number ≡ 0
     → (r : Section) × ReadsBack g (sectionBytes g ++ rest) r
 unfolding sectionBytes read fullReading summaryOf sectionOf propertiesParts
-section-back g n rest w a =
+section-back g rest w e =
     let first = g .values .«security_first» in
-    let s = input first g n rest w a in
-    let m = summaryBack first g n rest w a in
+    let a = section-placed g .0 e in
+    let s = input first g rest w a in
+    let m = summaryBack first g rest w a in
     let start = header-start first g s in
-    let parts = properties-parts first g n rest w a in
+    let parts = properties-parts first g rest w a in
     let header = header-back first g (propertiesBytes g ++ rest) (a .security) in
-    let holds = properties-holds first g n w a in
-    let room : startOf first g + 24 ≤ length s = omega (arith, start, section-read first g n rest w a .properties .fixed) in
+    let holds = properties-holds g w (a .properties) in
+    let room : startOf first (securityGiven g) + 24 ≤ length s = omega (arith, start, section-read first g rest w a .properties .fixed) in
     let back : ReadsBack g s (sectionOf m s) = record {
-      reads = rw (section-passed first s m .1 (section-read first g n rest w a));
+      reads = rw (section-passed first s m .1 (section-read first g rest w a));
       length = refl;
       security = λ e. header e .fields;
       properties = refl;
-      tag = rw (start, properties-behind first g n rest w a) (tag-written g rest holds w);
-      correlation = rw start (correlation-written g rest holds s (startOf first g) (properties-behind first g n rest w a) room);
+      tag = rw (start, properties-behind first g rest w a) (tag-written g rest holds w);
+      correlation = rw start (correlation-written g rest holds s (startOf first (securityGiven g)) (properties-behind first g rest w a) room);
       senderId = λ e. header e .senderId;
       encryptionKey = λ e. header e .encryptionKey;
       signature = λ e. header e .signature;

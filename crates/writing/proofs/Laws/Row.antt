@@ -11,9 +11,8 @@ use Rattle.octets.proofs.Laws.Number.{length-toLe}
 use Rattle.rules.specs.Properties.{propertiesLength, propertiesRow}
 use Rattle.rules.specs.Row.{fieldBytes, rowBytes}
 use Rattle.rules.specs.Security.{certAt, keyAt, providerAt, securityLength, securityRow, signatureAt}
-use Rattle.writing.specs.Given.{Given, propertiesGiven, securityGiven}
-use Rattle.writing.specs.Writing.{paddedPart, propertiesBytes, propertiesFixed, securityBytes, securityFixed}
-use Rattle.writing.proofs.Laws.Placed.{startOf}
+use Rattle.writing.specs.Given.{Given, propertiesFrom, propertiesGiven, securityFrom, securityGiven}
+use Rattle.writing.specs.Writing.{paddedPart, propertiesBytes, propertiesFixed, securityBytes, securityFixed, securityPartsBytes, startOf}
 
 -- how long each piece is
 pub length-paddedPart : (xs : List ℕ) → length (paddedPart xs) ≡ padded 4 (length xs)
@@ -25,14 +24,14 @@ unfolding securityFixed rowBytes securityRow fieldBytes toLe
 length-securityFixed g = refl
 
 pub length-securityBytes : (g : Given) → length (securityBytes g) ≡ securityLength (securityGiven g)
-unfolding securityBytes securityGiven securityLength providerAt certAt signatureAt keyAt
+unfolding securityBytes securityPartsBytes securityFrom securityLength providerAt certAt signatureAt keyAt
 length-securityBytes g = simp (length-append, length-securityFixed, length-paddedPart) (omega arith)
 
 -- the bytes of the SecurityHeader, where one stands first
 abbrev pub headerBytes : Bool → Given → List ℕ
 headerBytes first g = cond first (securityBytes g) []
 
-pub length-headerBytes : (first : Bool) (g : Given) → length (headerBytes first g) ≡ startOf first g
+pub length-headerBytes : (first : Bool) (g : Given) → length (headerBytes first g) ≡ startOf first (securityGiven g)
 length-headerBytes true g = length-securityBytes g
 length-headerBytes false g = refl
 
@@ -43,7 +42,7 @@ pub security-row : (g : Given) (rest : List ℕ)
     ++ (paddedPart (g .senderId)
     ++ (paddedPart (g .encryptionKey)
     ++ (paddedPart (g .signature) ++ (paddedPart (g .senderCert) ++ (paddedPart (g .providerInfo) ++ rest)))))
-unfolding securityBytes
+unfolding securityBytes securityPartsBytes
 security-row g rest = simp append-assoc
 
 -- the padding behind its parts
@@ -69,7 +68,7 @@ length-unpadded g c = simp (length-append, length-propertiesFixed g c) (omega ar
 -- as long as the fields say, where the label is a whole number of units
 pub length-given : (g : Given) → length (g .label) % 2 ≡ 0
     → propertiesLength (propertiesGiven g) ≡ padded 4 (56 + length (g .label) + length (g .extension) + length (g .body))
-unfolding propertiesGiven propertiesLength
+unfolding propertiesFrom propertiesLength
 length-given g even = ap (padded 4) (omega arith)
 
 pub length-propertiesBytes : (g : Given) → length (g .correlationId) ≡ 20 → length (g .label) % 2 ≡ 0

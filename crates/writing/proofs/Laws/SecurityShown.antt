@@ -10,8 +10,8 @@ use Rattle.rules.specs.Security.{certAt, keyAt, providerAt, securityFields, sec
 use Rattle.rules.specs.declared.security.SecurityFields.{SecurityFields}
 use Rattle.rules.proofs.Laws.Named.{security-reads, security-size}
 use Rattle.rules.proofs.Laws.Row.{keep}
-use Rattle.writing.specs.Given.{Given, securityGiven}
-use Rattle.writing.specs.Writing.{securityBytes, securityFixed}
+use Rattle.writing.specs.Given.{Given, securityFrom, securityGiven}
+use Rattle.writing.specs.Writing.{securityBytes, securityFixed, securityPartsBytes}
 use Rattle.writing.proofs.Laws.Parts.{SecurityPartsIn}
 use Rattle.writing.proofs.Laws.Row.{length-securityFixed}
 use Rattle.writing.proofs.Laws.Shown.{Shown, paddedMask, shown-append, shown-next, shown-padded, shown-row}
@@ -41,7 +41,7 @@ pub security-shown : (p : ℕ) (g other : Given) (s : List ℕ) → Octets s →
     → Shown cert (other .senderCert) s (certAt (securityGiven g))
     → Shown provider (other .providerInfo) s (providerAt (securityGiven g))
     → Shown (securityMasks p (securityGiven g) identity key signature cert provider) (securityBytes other) s 0
-unfolding securityBytes securityFixed securityGiven securityLength providerAt certAt signatureAt keyAt
+unfolding securityBytes securityPartsBytes securityFixed securityFrom securityLength providerAt certAt signatureAt keyAt
 security-shown bits g other s b a e i k u c p =
     let room = a .room in
     let fixed : Shown (rowBits bits securityRow) (securityFixed other) s 0 =

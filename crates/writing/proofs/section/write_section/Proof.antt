@@ -1,23 +1,38 @@
--- `writing::section::write_section` meets its contract: it is what follows where the SecurityHeader's steps have been made. Assumes nothing.
+-- The refusal, or what follows where no step but 13 refuses.
 use denote.Ref.{now}
+use mathlib.Core.Path.{_≡_, sym, ap, _∙_}
+use borrow.Author.Tests.{ne-eqb}
+use Rattle.octets.proofs.Laws.Steps.{the}
+use Rattle.rules.specs.declared.refusal.Refusal.{Refusal}
+use Rattle.writing.specs.Given.{Given, given}
+use Rattle.writing.specs.Writing.{writeAnswer, writeBytes, writeRefusal}
 use borrow.Author.Needs.{needs}
 use Rattle.writing.proofs.section.write_section.Statement.{statement}
 use Rattle.writing.proofs.section.write_section.Tie as tie
 
-place-properties-requires : tie.Need-place-properties-requires
-place-properties-requires c κs = search needs
-
-write-placed-requires : tie.Need-write-placed-requires
-write-placed-requires c κs =
-    let a = c .before .before .before .before .before .before .before .before .before .before .before .args in
-    c .before .place-properties .ensures (a .correlation-id) (now (a .label)) (now (a .extension)) (now (a .body))
-
-same-length : tie.Need-same-length
-same-length c = search needs
+-- the section that is to be written
+abbrev section : tie.Start → Given
+section c = let a = c .args in given (a .values) (a .correlation-id) (now (a .sender-id)) (now (a .encryption-key)) (now (a .signature)) (now (a .sender-cert)) (now (a .provider-info)) (now (a .label)) (now (a .extension)) (now (a .body))
 
 returns : tie.Need-returns
-returns c = search needs
+unfolding writeAnswer writeBytes
+returns c =
+    let judged = the tie.After-judge (search) .judge .ensures in
+    let some = ne-eqb _ 0 (c .if1 .taken) in
+    (rw (← judged, some), rw (← judged, some))
+
+write-judged-requires : tie.Need-write-judged-requires
+write-judged-requires c κs =
+    let judged = the tie.After-judge (search) .judge .ensures in
+    let none = the tie.Else1 (search) .if1 .left in
+    (ap (λ (r : Refusal). r .number) (sym judged) ∙ none, ap (λ (r : Refusal). r .place) (sym judged))
 
 pub write-section-spec : {M : Type 1} → statement M
 write-section-spec =
-    tie.close (tie.spec place-properties-requires write-placed-requires same-length returns)
+    tie.close
+    (tie.spec
+    (λ c κs. search needs)
+    returns
+    write-judged-requires
+    (λ c. search needs)
+    (λ c. search needs))

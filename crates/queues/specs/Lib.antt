@@ -1,5 +1,5 @@
-pub mod Examples
 pub mod Format
+pub mod Pairs
 pub mod Read
 pub mod RoundTrip
 pub mod Steps

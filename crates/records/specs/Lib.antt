@@ -1,5 +1,4 @@
 pub mod Decimal
-pub mod Examples
 pub mod Line
 pub mod Listing
 pub mod Record

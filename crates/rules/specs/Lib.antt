@@ -1,4 +1,3 @@
-pub mod Examples
 pub mod Judged
 pub mod Layout
 pub mod Listed

@@ -1,0 +1,26 @@
+-- The listing's examples, all by one computation.
+use mathlib.Core.Path.{_≡_, refl}
+use mathlib.Core.List.{map}
+use Rattle.octets.specs.Number.{le, toLe}
+use Rattle.octets.specs.Padding.{padded, padding}
+use Rattle.octets.specs.Part.{within}
+use Rattle.octets.specs.Text.{isText, lastOnly, units}
+use Rattle.rules.specs.Listed.{classes, listed}
+use Rattle.rules.specs.Properties.{bodyAt, extensionAt, labelContents, labelText, propertiesFields, propertiesLength, propertiesParts, propertiesSteps}
+use Rattle.rules.specs.Reading.{afterSecurity, propertiesAfterContents, propertiesAfterSteps, readProperties, securityAt, summarize}
+use Rattle.rules.specs.Summary.{noSecurity, summaryOf}
+use Rattle.records.specs.Decimal.{decimal, spelled}
+use Rattle.records.specs.Line.{endLine, headerLine, line, lineBytes, sizes, stopLine}
+use Rattle.records.specs.Listing.{linesFrom, linesOf, listing}
+use Rattle.records.specs.Record.{answerOf, nextRecord, sectionSize}
+use Rattle.examples.specs.Examples.{Example}
+use Rattle.examples.specs.Inputs.{properties, recordOf}
+use Rattle.examples.specs.Listings.{firstPrinted, firstRecord, headerPrinted, listings, restPrinted, stopPrinted}
+
+pub listings-hold : map (λ (e : Example). e .told) listings ≡ map (λ (e : Example). e .expected) listings
+unfolding le toLe padded padding within isText lastOnly units classes listed bodyAt extensionAt labelContents
+    labelText propertiesFields propertiesLength propertiesParts propertiesSteps afterSecurity propertiesAfterContents
+    propertiesAfterSteps readProperties securityAt summarize noSecurity summaryOf decimal spelled endLine headerLine line
+    lineBytes sizes stopLine linesFrom linesOf listing answerOf nextRecord sectionSize properties recordOf firstPrinted
+    firstRecord headerPrinted listings restPrinted stopPrinted
+listings-hold = refl

@@ -1,0 +1,1 @@
+// 01's examples, held against the definitions. No code.

@@ -2,6 +2,8 @@
 use Prim.Native.Nat.{ℕ}
 use mathlib.Core.Bool.{Bool, true, false}
 use mathlib.Core.List.{List}
+use denote.Ref.{RefT}
+use denote.Triple.Both.{Both}
 use Rattle.requests.specs.declared.request.Number.{Number}
 use Rattle.requests.specs.declared.request.Number.the-variants.{Absent, Given}
 use Rattle.requests.specs.declared.request.Request.{Request}
@@ -9,7 +11,6 @@ use Rattle.requests.specs.declared.request.Request.{Request}
 -- title and provider name in 16-bit units, all other parts in bytes
 pub record SendRequest : Type 0 where
   pub values : Request
-  pub correlationId : List ℕ
   pub title : List ℕ
   pub senderId : List ℕ
   pub encryptionKey : List ℕ
@@ -19,19 +20,23 @@ pub record SendRequest : Type 0 where
   pub extension : List ℕ
   pub body : List ℕ
 
-abbrev pub sendRequest : Request → List ℕ → List ℕ → List ℕ → List ℕ → List ℕ → List ℕ → List ℕ → List ℕ → List ℕ → SendRequest
-sendRequest values correlationId title senderId encryptionKey signature senderCert providerName extension body =
+-- a part as an `ensures` has it: the slice that was lent
+abbrev pub Lent : Type 0
+Lent = Both (RefT (List ℕ)) (RefT (List ℕ))
+
+-- the request of a call, out of the call's parameters
+abbrev pub sendRequest : Request → Lent → Lent → Lent → Lent → Lent → Lent → Lent → Lent → SendRequest
+sendRequest values title senderId encryptionKey signature senderCert providerName extension body =
     record {
       values = values;
-      correlationId = correlationId;
-      title = title;
-      senderId = senderId;
-      encryptionKey = encryptionKey;
-      signature = signature;
-      senderCert = senderCert;
-      providerName = providerName;
-      extension = extension;
-      body = body;
+      title = title .entry .now;
+      senderId = senderId .entry .now;
+      encryptionKey = encryptionKey .entry .now;
+      signature = signature .entry .now;
+      senderCert = senderCert .entry .now;
+      providerName = providerName .entry .now;
+      extension = extension .entry .now;
+      body = body .entry .now;
     }
 
 -- "An absent value gets .."

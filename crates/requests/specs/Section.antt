@@ -12,11 +12,13 @@ use Rattle.rules.specs.Security.{securityLength}
 use Rattle.rules.specs.declared.properties.PropertiesFields.{PropertiesFields}
 use Rattle.rules.specs.declared.security.SecurityFields.{SecurityFields}
 use Rattle.requests.specs.Request.{SendRequest}
-use Rattle.requests.specs.Defaults.{acknowledge, allocation, body, bodyType, class, encryption, encryptionAlgorithm, hash, kind, privacy, providerType, signature, title}
+use Rattle.requests.specs.Defaults.{acknowledge, allocation, bodyOf, bodyType, class, encryptionAlgorithm, hash, privacy, providerType, senderValues, signatureOf, titleOf}
+use Rattle.requests.specs.declared.properties.SenderValues.{SenderValues}
+use Rattle.requests.specs.declared.request.Request.{Request}
 
 -- signed: signature bytes are given
-abbrev pub signed : SendRequest → Bool
-signed q = not (eqb (length (q .signature)) 0)
+abbrev pub signed : List ℕ → Bool
+signed signature = not (eqb (length signature) 0)
 
 -- "The packet's privacy is 0, 1 or 3 for a request's 0, 1 or 2."
 unfoldable pub packetPrivacy : ℕ → ℕ
@@ -27,32 +29,32 @@ unfoldable pub labelWith : List ℕ → List ℕ
 labelWith [] = []
 labelWith (u ∷ us) = unitBytes ((u ∷ us) ++ (0 ∷ []))
 
-abbrev pub label : SendRequest → List ℕ
-label q = labelWith (title q)
+abbrev pub label : List ℕ → List ℕ
+label title = labelWith (titleOf title)
 
 -- "Provider info is written only for a signature by another provider": its type, and its name with a null added
-unfoldable pub providerInfo : SendRequest → List ℕ
-providerInfo q =
-    cond (signed q && not (q .values .«default_provider»)) (toLe 4 (providerType q) ++ unitBytes (q .providerName ++ (0 ∷ []))) []
+unfoldable pub providerInfo : Request → List ℕ → List ℕ → List ℕ
+providerInfo v signature name =
+    cond (signed signature && not (v .«default_provider»)) (toLe 4 (providerType v) ++ unitBytes (name ++ (0 ∷ []))) []
 
 -- "A SecurityHeader is written when identity, key, signature or certificate is not empty."
-unfoldable pub securityFirst : SendRequest → Bool
-securityFirst q =
-    not (eqb (length (q .senderId)) 0 && eqb (length (q .encryptionKey)) 0 && eqb (length (signature q)) 0 && eqb (length (q .senderCert)) 0)
+unfoldable pub securityFirst : Request → List ℕ → List ℕ → List ℕ → List ℕ → Bool
+securityFirst v identity key signature certificate =
+    not (eqb (length identity) 0 && eqb (length key) 0 && eqb (length (signatureOf v signature)) 0 && eqb (length certificate) 0)
 
 -- "DP is set, DE for the default provider, EB for encryption", beside the sender kind
-unfoldable pub securityFlags : SendRequest → ℕ
-securityFlags q = kind q + cond (encryption q) 32 0 + cond (q .values .«default_provider») 64 0 + 128
+unfoldable pub securityFlags : SenderValues → ℕ
+securityFlags s = s .kind + cond (s .encryption) 32 0 + cond (s .«default_provider») 64 0 + 128
 
 unfoldable pub securityFieldsOf : SendRequest → SecurityFields
 securityFieldsOf q =
     record {
-      flags = securityFlags q;
+      flags = securityFlags (senderValues (q .values) (q .encryptionKey));
       «sender_id_size» = bytes (length (q .senderId));
       «encryption_key_size» = bytes (length (q .encryptionKey));
-      «signature_size» = bytes (length (signature q));
+      «signature_size» = bytes (length (signatureOf (q .values) (q .signature)));
       «sender_cert_size» = bytes (length (q .senderCert));
-      «provider_info_size» = bytes (length (providerInfo q));
+      «provider_info_size» = bytes (length (providerInfo (q .values) (q .signature) (q .providerName)));
     }
 
 -- "acknowledge is the properties Flags"
@@ -60,20 +62,23 @@ unfoldable pub propertiesFieldsOf : SendRequest → PropertiesFields
 propertiesFieldsOf q =
     record {
       flags = acknowledge (q .values);
-      «label_length» = record { 0 = length (label q) / 2 };
-      «message_class» = class q;
-      «body_type» = bodyType q;
-      «message_size» = bytes (length (body q));
-      «allocation_body_size» = bytes (allocation q);
+      «label_length» = record { 0 = length (label (q .title)) / 2 };
+      «message_class» = class (q .values);
+      «body_type» = bodyType (q .values);
+      «message_size» = bytes (length (bodyOf (q .values) (q .body)));
+      «allocation_body_size» = bytes (allocation (q .values));
       «privacy_level» = packetPrivacy (privacy (q .values));
-      «hash_algorithm» = hash q;
-      «encryption_algorithm» = encryptionAlgorithm q;
+      «hash_algorithm» = hash (q .values);
+      «encryption_algorithm» = encryptionAlgorithm (q .values);
       «extension_size» = bytes (length (q .extension));
     }
 
--- where the MessagePropertiesHeader begins, 01's p
+-- whether a SecurityHeader stands first, and where the MessagePropertiesHeader begins, 01's p
+abbrev pub first : SendRequest → Bool
+first q = securityFirst (q .values) (q .senderId) (q .encryptionKey) (q .signature) (q .senderCert)
+
 unfoldable pub propertiesAt : SendRequest → ℕ
-propertiesAt q = cond (securityFirst q) (securityLength (securityFieldsOf q)) 0
+propertiesAt q = cond (first q) (securityLength (securityFieldsOf q)) 0
 
 unfoldable pub sectionLength : SendRequest → ℕ
 sectionLength q = propertiesAt q + propertiesLength (propertiesFieldsOf q)

@@ -14,20 +14,18 @@ use crate::signature::kept_bytes;
 use crate::steps::request_steps;
 use crate::text::kept_units;
 use crate::values;
-use octets::count::Bytes;
 use rules::refusal::Checked;
 use rules::section::CorrelationId;
 ghost use mathlib.Core.Path.{_≡_};
-ghost use mathlib.Core.List.{List};
-ghost use Prim.Native.Nat.{ℕ};
-ghost use Rattle.requests.specs.Defaults.{correlationOr, propertiesOf};
+ghost use Rattle.requests.specs.Defaults.{correlationOf, handlingOf, propertiesOf, senderOf};
 ghost use Rattle.requests.specs.Request.{sendRequest};
 ghost use Rattle.requests.specs.Steps.{defaulted};
 
 // The CorrelationID, or 20 zero bytes where it is absent.
-pub fn correlation_of(correlation: Correlation, given: CorrelationId) -> CorrelationId
-    ensures { λ r. ⌜ r ≡ correlationOr given correlation ⌝ }
+pub fn correlation_of(request: Request, given: CorrelationId) -> CorrelationId
+    ensures { λ r. ⌜ r ≡ correlationOf request given ⌝ }
 {
+    let correlation = request.correlation;
     match correlation {
         Correlation::Absent => [0u8; 20],
         Correlation::Given => given,
@@ -35,7 +33,7 @@ pub fn correlation_of(correlation: Correlation, given: CorrelationId) -> Correla
 }
 
 fn handling_of(request: Request) -> Handling
-    ensures { λ r. ⌜ ((i t d k s c n x b : List ℕ) → r ≡ propertiesOf (sendRequest request i t d k s c n x b) .handling) ⌝ }
+    ensures { λ r. ⌜ r ≡ handlingOf request ⌝ }
 {
     let split_number = request.split_number;
     Handling::Known(HandlingValues {
@@ -51,7 +49,7 @@ fn handling_of(request: Request) -> Handling
 }
 
 fn sender_of(request: Request, encryption_key: &[u8]) -> Sender
-    ensures { λ r. ⌜ ((i t d s c n x b : List ℕ) → r ≡ propertiesOf (sendRequest request i t d (now («encryption_key» .entry)) s c n x b) .sender) ⌝ }
+    ensures { λ r. ⌜ r ≡ senderOf request (now («encryption_key» .entry)) ⌝ }
 {
     Sender::Known(SenderValues {
         kind: values::sender_kind(request),
@@ -67,9 +65,8 @@ fn properties_of(
     signature: &[u8],
     body: &[u8],
 ) -> Properties
-    ensures { λ r. ⌜ ((i d c n x : List ℕ) → r ≡ propertiesOf (sendRequest request i (now (title .entry)) d (now («encryption_key» .entry)) (now (signature .entry)) c n x (now (body .entry)))) ⌝ }
+    ensures { λ r. ⌜ r ≡ propertiesOf request (now (title .entry)) (now («encryption_key» .entry)) (now (signature .entry)) (now (body .entry)) ⌝ }
 {
-    let given = request.body;
     Properties {
         handling: handling_of(request),
         sender: sender_of(request, encryption_key),
@@ -81,8 +78,8 @@ fn properties_of(
         hash_algorithm: values::hash_algorithm(request),
         encryption_algorithm: values::encryption_algorithm(request),
         body_type: values::body_type(request),
-        message_size: Bytes(body_size(given, body)),
-        allocation_body_size: Bytes(allocation_of(given)),
+        message_size: body_size(request, body),
+        allocation_body_size: allocation_of(request),
         title: kept_units(title),
         signature: kept_bytes(request, signature),
     }
@@ -100,7 +97,7 @@ pub fn defaulted(
     extension: &[u8],
     body: &[u8],
 ) -> Defaulted
-    ensures { λ r. ⌜ ((i : List ℕ) → r ≡ defaulted (sendRequest request i (now (title .entry)) (now («sender_id» .entry)) (now («encryption_key» .entry)) (now (signature .entry)) (now («sender_cert» .entry)) (now («provider_name» .entry)) (now (extension .entry)) (now (body .entry)))) ⌝ }
+    ensures { λ r. ⌜ r ≡ defaulted (sendRequest request title «sender_id» «encryption_key» signature «sender_cert» «provider_name» extension body) ⌝ }
 {
     match request_steps(
         request,

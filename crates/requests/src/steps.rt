@@ -1,8 +1,10 @@
-// Steps 1 to 5 of a send request. Each answers for every value of what it does not look at.
+// The steps of a send request, each test a function of what it looks at.
 use crate::request::Number;
 use crate::request::Request;
-use crate::section::refused;
-use crate::section::section_steps;
+use crate::section::above_the_limit;
+use crate::section::allocation_of;
+use crate::section::body_size;
+use crate::signature::kept_bytes;
 use crate::signature::signature_count;
 use crate::text::name_fits;
 use crate::values;
@@ -10,15 +12,18 @@ use octets::count::Bytes;
 use rules::class::is_listed;
 use rules::refusal;
 use rules::refusal::Checked;
+use rules::refusal::Refusal;
+use rules::section::LIMIT;
 use rules::security::SecurityFields;
 use rules::security::identity_head_fits;
 use rules::security::identity_size_fits;
 ghost use mathlib.Core.Path.{_≡_};
-ghost use mathlib.Core.List.{List};
-ghost use Prim.Native.Nat.{ℕ};
+ghost use mathlib.Core.Bool.{not};
+ghost use lib.Dec.{ltb};
 ghost use Rattle.rules.specs.Listed.{classes, listed};
+ghost use Rattle.requests.specs.Defaults.{class, privacy};
 ghost use Rattle.requests.specs.Request.{sendRequest};
-ghost use Rattle.requests.specs.Steps.{algorithmMissing, directPrivacy, hashMissing, identityFails, isOne, outOfRange, providerFails, requestSteps, senderSteps, splitFails};
+ghost use Rattle.requests.specs.Steps.{algorithmMissing, allocationFails, directPrivacy, hashMissing, identityFails, isOne, outOfRange, providerFails, refused, requestSteps, splitFails, tooLarge};
 
 // 1, of the values as they were given: a transaction changes delivery only later.
 fn out_of_range(request: Request) -> bool
@@ -40,16 +45,23 @@ fn out_of_range(request: Request) -> bool
 }
 
 // 1: a class too large for its field is not listed.
-fn class_is_listed(class: u32) -> bool
-    ensures { λ r. ⌜ r ≡ listed classes class ⌝ }
+fn class_unlisted(request: Request) -> bool
+    ensures { λ r. ⌜ r ≡ not (listed classes (class request)) ⌝ }
 {
+    let class = values::message_class(request);
     if 65535 < class {
-        return false;
+        return true;
     }
-    is_listed(class as u16)
+    !is_listed(class as u16)
 }
 
 // 2
+fn privacy_unknown(request: Request) -> bool
+    ensures { λ r. ⌜ r ≡ ltb 2 (privacy request) ⌝ }
+{
+    2 < values::privacy_level(request)
+}
+
 fn direct_privacy(request: Request) -> bool
     ensures { λ r. ⌜ r ≡ directPrivacy request ⌝ }
 {
@@ -82,13 +94,13 @@ fn hash_missing(request: Request, signature: &[u8]) -> bool
 
 // 3. S10 looks at the kind and at the identity's size alone.
 fn identity_fails(request: Request, sender_id: &[u8]) -> bool
-    ensures { λ r. ⌜ ((i t k s c n x b : List ℕ) → r ≡ identityFails (sendRequest request i t (now («sender_id» .entry)) k s c n x b)) ⌝ }
+    ensures { λ r. ⌜ r ≡ identityFails request (now («sender_id» .entry)) ⌝ }
 {
     let kind = values::sender_kind(request);
     if 2 < kind {
         return true;
     }
-    if !identity_size_fits(kind, sender_id.len()) {
+    if !identity_size_fits(kind, Bytes(sender_id.len())) {
         return true;
     }
     let fields = SecurityFields {
@@ -113,7 +125,7 @@ fn is_one(number: Number) -> bool
 }
 
 fn provider_fails(request: Request, signature: &[u8], provider_name: &[u16]) -> bool
-    ensures { λ r. ⌜ ((i t d k c x b : List ℕ) → r ≡ providerFails (sendRequest request i t d k (now (signature .entry)) c (now («provider_name» .entry)) x b)) ⌝ }
+    ensures { λ r. ⌜ r ≡ providerFails request (now (signature .entry)) (now («provider_name» .entry)) ⌝ }
 {
     if signature.len() == 0 {
         return false;
@@ -127,7 +139,7 @@ fn provider_fails(request: Request, signature: &[u8], provider_name: &[u16]) -> 
 
 // 5
 fn split_fails(request: Request, signature: &[u8]) -> bool
-    ensures { λ r. ⌜ ((i t d k c n x b : List ℕ) → r ≡ splitFails (sendRequest request i t d k (now (signature .entry)) c n x b)) ⌝ }
+    ensures { λ r. ⌜ r ≡ splitFails request (now (signature .entry)) ⌝ }
 {
     let given = signature.len();
     let split = request.split_number;
@@ -137,47 +149,45 @@ fn split_fails(request: Request, signature: &[u8]) -> bool
     if !split.is_given() {
         return false;
     }
-    let count = signature_count(given, request.provider_name_length, split);
+    let count = signature_count(request, Bytes(given)).0;
     if count < 1 {
         return true;
     }
     given < count
 }
 
-// 3 to 5, then 6.
-fn sender_steps(
-    request: Request,
-    title: &[u16],
-    sender_id: &[u8],
-    encryption_key: &[u8],
-    signature: &[u8],
-    sender_cert: &[u8],
-    provider_name: &[u16],
-    extension: &[u8],
-    body: &[u8],
-) -> Checked
-    ensures { λ r. ⌜ ((i : List ℕ) → r ≡ senderSteps (sendRequest request i (now (title .entry)) (now («sender_id» .entry)) (now («encryption_key» .entry)) (now (signature .entry)) (now («sender_cert» .entry)) (now («provider_name» .entry)) (now (extension .entry)) (now (body .entry)))) ⌝ }
+// 6: key, signature as cut, certificate
+fn too_large(request: Request, encryption_key: &[u8], signature: &[u8], sender_cert: &[u8]) -> bool
+    ensures { λ r. ⌜ r ≡ tooLarge request (now («encryption_key» .entry)) (now (signature .entry)) (now («sender_cert» .entry)) ⌝ }
 {
-    if identity_fails(request, sender_id) {
-        return refused(refusal::REQUEST_IDENTITY);
+    if 65535 < encryption_key.len() {
+        return true;
     }
-    if provider_fails(request, signature, provider_name) {
-        return refused(refusal::REQUEST_PROVIDER);
+    if 65535 < kept_bytes(request, signature).length.0 {
+        return true;
     }
-    if split_fails(request, signature) {
-        return refused(refusal::SPLIT_NUMBER);
+    65535 < sender_cert.len()
+}
+
+// as P4
+fn allocation_fails(request: Request, body: &[u8]) -> bool
+    ensures { λ r. ⌜ r ≡ allocationFails request (now (body .entry)) ⌝ }
+{
+    let allocation = allocation_of(request).0;
+    if allocation < body_size(request, body).0 {
+        return true;
     }
-    section_steps(
-        request,
-        title,
-        sender_id,
-        encryption_key,
-        signature,
-        sender_cert,
-        provider_name,
-        extension,
-        body,
-    )
+    LIMIT < allocation
+}
+
+// A request is refused at place 0.
+fn refused(number: u32) -> Checked
+    ensures { λ r. ⌜ r ≡ refused number ⌝ }
+{
+    Checked::Refused(Refusal {
+        number,
+        place: Bytes(0),
+    })
 }
 
 // All steps but that of the output, in 01's order.
@@ -192,27 +202,31 @@ pub(crate) fn request_steps(
     extension: &[u8],
     body: &[u8],
 ) -> Checked
-    ensures { λ r. ⌜ ((i : List ℕ) → r ≡ requestSteps (sendRequest request i (now (title .entry)) (now («sender_id» .entry)) (now («encryption_key» .entry)) (now (signature .entry)) (now («sender_cert» .entry)) (now («provider_name» .entry)) (now (extension .entry)) (now (body .entry)))) ⌝ }
+    ensures { λ r. ⌜ r ≡ requestSteps (sendRequest request title «sender_id» «encryption_key» signature «sender_cert» «provider_name» extension body) ⌝ }
 {
     if out_of_range(request) {
-        return refused(refusal::VALUE_OUT_OF_RANGE);
-    }
-    if !class_is_listed(values::message_class(request)) {
-        return refused(refusal::CLASS);
-    }
-    if 2 < values::privacy_level(request) {
-        return refused(refusal::PRIVACY);
-    }
-    if direct_privacy(request) {
-        return refused(refusal::PRIVACY_ON_A_DIRECT_QUEUE);
-    }
-    if algorithm_missing(request) {
-        return refused(refusal::ALGORITHM_ABSENT);
-    }
-    if hash_missing(request, signature) {
-        return refused(refusal::HASH_ABSENT);
-    }
-    sender_steps(
+        refused(refusal::VALUE_OUT_OF_RANGE)
+    } else if class_unlisted(request) {
+        refused(refusal::CLASS)
+    } else if privacy_unknown(request) {
+        refused(refusal::PRIVACY)
+    } else if direct_privacy(request) {
+        refused(refusal::PRIVACY_ON_A_DIRECT_QUEUE)
+    } else if algorithm_missing(request) {
+        refused(refusal::ALGORITHM_ABSENT)
+    } else if hash_missing(request, signature) {
+        refused(refusal::HASH_ABSENT)
+    } else if identity_fails(request, sender_id) {
+        refused(refusal::REQUEST_IDENTITY)
+    } else if provider_fails(request, signature, provider_name) {
+        refused(refusal::REQUEST_PROVIDER)
+    } else if split_fails(request, signature) {
+        refused(refusal::SPLIT_NUMBER)
+    } else if too_large(request, encryption_key, signature, sender_cert) {
+        refused(refusal::PART_TOO_LARGE)
+    } else if allocation_fails(request, body) {
+        refused(refusal::ALLOCATION)
+    } else if above_the_limit(
         request,
         title,
         sender_id,
@@ -222,5 +236,9 @@ pub(crate) fn request_steps(
         provider_name,
         extension,
         body,
-    )
+    ) {
+        refused(refusal::ABOVE_THE_LIMIT)
+    } else {
+        Checked::Passed
+    }
 }

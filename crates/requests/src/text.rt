@@ -1,55 +1,62 @@
 // Title and provider name: 16-bit units up to the first zero.
 use octets::count::Units;
 ghost use mathlib.Core.Path.{_≡_};
-ghost use mathlib.Core.Bool.{true};
 ghost use Prim.Native.Nat.{_≤_, _/_};
-ghost use lib.ListN.{length, take};
-ghost use lib.Dec.{ltb};
+ghost use lib.ListN.{length};
 ghost use Rattle.requests.specs.Defaults.{beforeZero, titleOf};
-ghost use Rattle.requests.specs.Section.{labelWith};
-ghost use Rattle.requests.specs.Steps.{nameFits};
+ghost use Rattle.requests.specs.Section.{label};
+ghost use Rattle.requests.specs.Steps.{nameFits, withoutZero};
 
-// Whether the unit at `i` stands before the first zero and is one of the first `most`, as those before it do.
-fn goes_on(units: &[u16], most: usize, i: usize) -> bool
-    requires { ⌜ i ≤ length (take most (beforeZero (now units))) ⌝ }
-    ensures { λ r. ⌜ r ≡ ltb i (length (take most (beforeZero (now (units .entry))))) ⌝ }
+// Whether no unit is zero. No early exit, so that the loop becomes vector code.
+fn without_zero(units: &[u16]) -> bool
+    ensures { λ r. ⌜ r ≡ withoutZero (now (units .entry)) ⌝ }
 {
-    if most <= i {
-        return false;
-    }
-    if units.len() <= i {
-        return false;
-    }
-    units[i] != 0
-}
-
-// How many units stand before the first zero, but not more than `most`.
-fn before_zero(units: &[u16], most: usize) -> usize
-    ensures { λ r. ⌜ r ≡ length (take most (beforeZero (now (units .entry)))) ⌝ }
-{
+    let mut none = true;
     let mut i = 0;
-    while goes_on(units, most, i) {
+    while i < units.len() {
+        none &= units[i] != 0;
         i += 1;
     }
-    i
+    none
+}
+
+// How many units stand before the first zero, which most texts do not hold.
+fn before_zero(units: &[u16]) -> Units
+    requires { ⌜ length (now units) ≤ 249 ⌝ }
+    ensures { λ r. ⌜ r .0 ≡ length (beforeZero (now (units .entry))) ⌝ }
+{
+    if without_zero(units) {
+        return Units(units.len() as u32);
+    }
+    let mut i = 0;
+    while i < units.len() {
+        if units[i] == 0 {
+            return Units(i as u32);
+        }
+        i += 1;
+    }
+    Units(i as u32)
 }
 
 // How many units of a title are kept: those before the first zero, and of these 249, so that 250 hold them with a null.
 pub(crate) fn kept_units(title: &[u16]) -> Units
     ensures { λ r. ⌜ r .0 ≡ length (titleOf (now (title .entry))) ⌝ }
 {
-    Units(before_zero(title, 249) as u32)
+    if title.len() <= 249 {
+        return before_zero(title);
+    }
+    before_zero(&title[..249])
 }
 
 // LabelLength: the units kept of a title and the null, or 0 where none is kept.
 pub(crate) fn label_units(title: &[u16]) -> Units
-    ensures { λ r. ⌜ r .0 ≡ length (labelWith (titleOf (now (title .entry)))) / 2 ⌝ }
+    ensures { λ r. ⌜ r .0 ≡ length (label (now (title .entry))) / 2 ⌝ }
 {
-    let kept = before_zero(title, 249);
-    if kept == 0 {
-        return Units(0);
+    let kept = kept_units(title);
+    if kept.0 == 0 {
+        return kept;
     }
-    Units(kept as u32 + 1)
+    Units(kept.0 + 1)
 }
 
 // Step 4: a name of 1 to 1,024 units without zero.
@@ -62,5 +69,5 @@ pub(crate) fn name_fits(name: &[u16]) -> bool
     if 1024 < name.len() {
         return false;
     }
-    before_zero(name, 1024) == name.len()
+    without_zero(name)
 }

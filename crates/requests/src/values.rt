@@ -1,20 +1,17 @@
 // The values of a send request, each with the default that it gets where it is absent.
 use crate::request::Request;
 ghost use mathlib.Core.Path.{_≡_};
-ghost use mathlib.Core.List.{List};
-ghost use Prim.Native.Nat.{ℕ};
-ghost use Rattle.requests.specs.Defaults.{delivery, encryption};
-ghost use Rattle.requests.specs.Request.{sendRequest, valueOr};
+ghost use Rattle.requests.specs.Defaults.{acknowledge, auditing, bodyType, class, delivery, deliveryGiven, encryption, encryptionAlgorithm, hash, kind, priority, privacy, providerType, tag, trace};
 
 pub fn priority(request: Request) -> u32
-    ensures { λ r. ⌜ r ≡ valueOr 3 (request .priority) ⌝ }
+    ensures { λ r. ⌜ r ≡ priority request ⌝ }
 {
     let number = request.priority;
     number.value_or(3)
 }
 
 pub fn trace(request: Request) -> u32
-    ensures { λ r. ⌜ r ≡ valueOr 0 (request .trace) ⌝ }
+    ensures { λ r. ⌜ r ≡ trace request ⌝ }
 {
     let number = request.trace;
     number.value_or(0)
@@ -22,7 +19,7 @@ pub fn trace(request: Request) -> u32
 
 // The delivery that step 1 looks at.
 pub fn delivery_given(request: Request) -> u32
-    ensures { λ r. ⌜ r ≡ valueOr 0 (request .delivery) ⌝ }
+    ensures { λ r. ⌜ r ≡ deliveryGiven request ⌝ }
 {
     let number = request.delivery;
     number.value_or(0)
@@ -30,7 +27,7 @@ pub fn delivery_given(request: Request) -> u32
 
 // A transaction makes delivery 1, but only after step 1.
 pub fn delivery(request: Request) -> u32
-    ensures { λ r. ⌜ ((i t d k s c n x b : List ℕ) → r ≡ delivery (sendRequest request i t d k s c n x b)) ⌝ }
+    ensures { λ r. ⌜ r ≡ delivery request ⌝ }
 {
     if request.transaction {
         return 1;
@@ -39,70 +36,70 @@ pub fn delivery(request: Request) -> u32
 }
 
 pub fn auditing(request: Request) -> u32
-    ensures { λ r. ⌜ r ≡ valueOr 0 (request .auditing) ⌝ }
+    ensures { λ r. ⌜ r ≡ auditing request ⌝ }
 {
     let number = request.auditing;
     number.value_or(0)
 }
 
 pub fn message_class(request: Request) -> u32
-    ensures { λ r. ⌜ r ≡ valueOr 0 (request .«message_class») ⌝ }
+    ensures { λ r. ⌜ r ≡ class request ⌝ }
 {
     let number = request.message_class;
     number.value_or(0)
 }
 
 pub fn acknowledge(request: Request) -> u32
-    ensures { λ r. ⌜ r ≡ valueOr 0 (request .acknowledge) ⌝ }
+    ensures { λ r. ⌜ r ≡ acknowledge request ⌝ }
 {
     let number = request.acknowledge;
     number.value_or(0)
 }
 
 pub fn application_tag(request: Request) -> u32
-    ensures { λ r. ⌜ r ≡ valueOr 0 (request .«application_tag») ⌝ }
+    ensures { λ r. ⌜ r ≡ tag request ⌝ }
 {
     let number = request.application_tag;
     number.value_or(0)
 }
 
 pub fn privacy_level(request: Request) -> u32
-    ensures { λ r. ⌜ r ≡ valueOr 0 (request .«privacy_level») ⌝ }
+    ensures { λ r. ⌜ r ≡ privacy request ⌝ }
 {
     let number = request.privacy_level;
     number.value_or(0)
 }
 
 pub fn hash_algorithm(request: Request) -> u32
-    ensures { λ r. ⌜ r ≡ valueOr 0 (request .«hash_algorithm») ⌝ }
+    ensures { λ r. ⌜ r ≡ hash request ⌝ }
 {
     let number = request.hash_algorithm;
     number.value_or(0)
 }
 
 pub fn encryption_algorithm(request: Request) -> u32
-    ensures { λ r. ⌜ r ≡ valueOr 0 (request .«encryption_algorithm») ⌝ }
+    ensures { λ r. ⌜ r ≡ encryptionAlgorithm request ⌝ }
 {
     let number = request.encryption_algorithm;
     number.value_or(0)
 }
 
 pub fn body_type(request: Request) -> u32
-    ensures { λ r. ⌜ r ≡ valueOr 0 (request .«body_type») ⌝ }
+    ensures { λ r. ⌜ r ≡ bodyType request ⌝ }
 {
     let number = request.body_type;
     number.value_or(0)
 }
 
 pub fn sender_kind(request: Request) -> u32
-    ensures { λ r. ⌜ r ≡ valueOr 0 (request .«sender_kind») ⌝ }
+    ensures { λ r. ⌜ r ≡ kind request ⌝ }
 {
     let number = request.sender_kind;
     number.value_or(0)
 }
 
 pub fn provider_type(request: Request) -> u32
-    ensures { λ r. ⌜ r ≡ valueOr 0 (request .«provider_type») ⌝ }
+    ensures { λ r. ⌜ r ≡ providerType request ⌝ }
 {
     let number = request.provider_type;
     number.value_or(0)
@@ -110,7 +107,7 @@ pub fn provider_type(request: Request) -> u32
 
 // Encryption without a key counts as not asked.
 pub fn encryption(request: Request, encryption_key: &[u8]) -> bool
-    ensures { λ r. ⌜ ((i t d s c n x b : List ℕ) → r ≡ encryption (sendRequest request i t d (now («encryption_key» .entry)) s c n x b)) ⌝ }
+    ensures { λ r. ⌜ r ≡ encryption request (now («encryption_key» .entry)) ⌝ }
 {
     if !request.encryption {
         return false;

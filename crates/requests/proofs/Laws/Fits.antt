@@ -1,29 +1,27 @@
 -- The section of a legal request passes S2 to S8, S10, S11, P2 to P5 and P7.
 use Prim.Native.Nat.{ℕ, _+_, _%_, _≤_, _<_}
 use mathlib.Core.Path.{_≡_, ap}
-use mathlib.Core.Bool.{Bool, true, false, _&&_}
+use mathlib.Core.Bool.{Bool, true, false, _&&_, cond}
 use native.Mathlib.Omega.{arith}
 use borrow.Author.Tests.{eq-eqb, le-ltb, ne-eqb, not-true}
 use lib.ListN.{length, getD}
 use lib.Dec.{eqb}
 use Rattle.rules.specs.Listed.{classes, listed}
-use Rattle.rules.specs.Properties.{labelContents, propertiesLength, propertiesParts, propertiesSteps}
+use Rattle.rules.specs.Properties.{labelContents, propertiesLength, propertiesSteps}
 use Rattle.rules.specs.Refusal.{limit}
-use Rattle.rules.specs.Security.{AS, AU, DE, DP, ST, allEmpty, identitySize, providerSize, securityContents, securityLength, securityParts, securitySteps, sizeSteps}
+use Rattle.rules.specs.Security.{AS, AU, DE, DP, ST, allEmpty, identitySize, providerSize, securityContents, securityLength, securitySteps}
 use Rattle.rules.specs.declared.properties.PropertiesFields.{PropertiesFields}
-use Rattle.rules.specs.declared.properties.PropertiesLayout.the-variants.{Fits as Properties·Fits}
-use Rattle.rules.specs.declared.refusal.Checked.the-variants.{Passed}
 use Rattle.rules.specs.declared.security.SecurityFields.{SecurityFields}
-use Rattle.rules.specs.declared.security.SecurityLayout.the-variants.{Fits}
-use Rattle.requests.specs.Defaults.{allocation, body, class, kind, signature, title}
+use Rattle.requests.specs.Defaults.{senderValues, signatureOf, titleOf}
 use Rattle.requests.specs.Request.{SendRequest}
-use Rattle.requests.specs.Section.{label, propertiesAt, propertiesFieldsOf, providerInfo, sectionLength, securityFieldsOf, securityFirst}
+use Rattle.requests.specs.Section.{first, label, propertiesAt, propertiesFieldsOf, providerInfo, sectionLength, securityFieldsOf, securityFirst}
 use Rattle.requests.proofs.Laws.Flags.{securityFlags-bits}
 use Rattle.requests.proofs.Laws.Legal.{RequestPassed, identity-fits, request-sizes}
-use Rattle.requests.proofs.Laws.Provider.{provider-fits}
+use Rattle.requests.proofs.Laws.Provider.{Provider, provider-fits}
+use Rattle.requests.proofs.Laws.Section.{head-alike}
 use Rattle.requests.proofs.Laws.Title.{label-fits, title-cut}
 
--- what S2 to S8 ask
+-- what S2 to S7 ask
 record SecurityAsked (f : SecurityFields) : Type 0 where
   ST : ST f ≤ 2
   AU : AU f ≡ 0
@@ -33,11 +31,10 @@ record SecurityAsked (f : SecurityFields) : Type 0 where
   cert : f .«sender_cert_size» .0 ≤ 65535
   identity : identitySize (f .flags % 16) (f .«sender_id_size» .0) ≡ true
   provider : providerSize (DE f) (f .«signature_size» .0) (f .«provider_info_size» .0) ≡ true
-  small : securityLength f ≤ limit
 
-security-fit : (f : SecurityFields) (at : ℕ) → SecurityAsked f → securitySteps f at ≡ Fits (securityParts f)
-unfolding securitySteps sizeSteps
-security-fit f at a =
+security-fit : (f : SecurityFields) → SecurityAsked f → securitySteps f ≡ 0
+unfolding securitySteps
+security-fit f a =
     rw (
       le-ltb 2 (ST f) (a .ST),
       eq-eqb (AU f) 0 (a .AU),
@@ -47,48 +44,49 @@ security-fit f at a =
       le-ltb 65535 (f .«sender_cert_size» .0) (a .cert),
       a .identity,
       a .provider,
-      le-ltb limit (securityLength f) (a .small),
     )
 
--- what P2 to P5 ask
-record PropertiesAsked (f : PropertiesFields) (p : ℕ) : Type 0 where
+-- what P2 to P4 ask
+record PropertiesAsked (f : PropertiesFields) : Type 0 where
   label : f .«label_length» .0 ≤ 250
   class : listed classes (f .«message_class») ≡ true
   body : f .«message_size» .0 ≤ f .«allocation_body_size» .0
   allocation : f .«allocation_body_size» .0 ≤ limit
-  small : p + propertiesLength f ≤ limit
 
-properties-fit : (f : PropertiesFields) (p : ℕ) → PropertiesAsked f p → propertiesSteps f p ≡ Properties·Fits (propertiesParts p f)
+properties-fit : (f : PropertiesFields) → PropertiesAsked f → propertiesSteps f ≡ 0
 unfolding propertiesSteps
-properties-fit f p a =
+properties-fit f a =
     let allocated = f .«allocation_body_size» .0 in
     rw (
       le-ltb 250 (f .«label_length» .0) (a .label),
       a .class,
       le-ltb allocated (f .«message_size» .0) (a .body),
       le-ltb limit allocated (a .allocation),
-      le-ltb limit (p + propertiesLength f) (a .small),
     )
 
 module _ (q : SendRequest) (a : RequestPassed q) where
   -- some part of the SecurityHeader is not empty
-  not-empty : securityFirst q ≡ true → allEmpty (securityFieldsOf q) ≡ false
+  not-empty : first q ≡ true → allEmpty (securityFieldsOf q) ≡ false
   unfolding securityFirst allEmpty securityFieldsOf
   not-empty e =
-      let none = eqb (length (q .senderId)) 0 && eqb (length (q .encryptionKey)) 0 && eqb (length (signature q)) 0
+      let none = eqb (length (q .senderId)) 0 && eqb (length (q .encryptionKey)) 0 && eqb (length (signatureOf (q .values) (q .signature))) 0
       && eqb (length (q .senderCert)) 0 in
-      ap (λ (b : Bool). b && eqb (length (providerInfo q)) 0) (not-true none e)
+      ap (λ (b : Bool). b && eqb (length (providerInfo (q .values) (q .signature) (q .providerName))) 0) (not-true none e)
 
-  -- S2 to S8
-  pub securitySteps-pass : securityFirst q ≡ true → ((i : ℕ) → getD (q .providerName) i 0 < 65536)
-      → securitySteps (securityFieldsOf q) 0 ≡ Fits (securityParts (securityFieldsOf q))
-  unfolding securityFieldsOf sectionLength propertiesAt
+  provided : ((i : ℕ) → getD (q .providerName) i 0 < 65536)
+      → Provider (cond (q .values .«default_provider») 1 0) (length (signatureOf (q .values) (q .signature)))
+      (providerInfo (q .values) (q .signature) (q .providerName))
+  provided b = provider-fits (q .values) (q .signature) (q .providerName) b (a .provider) (a .split)
+
+  -- S2 to S7
+  pub securitySteps-pass : first q ≡ true → ((i : ℕ) → getD (q .providerName) i 0 < 65536)
+      → securitySteps (securityFieldsOf q) ≡ 0
+  unfolding securityFieldsOf
   securitySteps-pass e b =
       let identity = identity-fits q a in
-      let bits = securityFlags-bits q (identity .kind) in
-      let provider = provider-fits q a b in
-      let at : propertiesAt q ≡ securityLength (securityFieldsOf q) = rw e in
-      security-fit (securityFieldsOf q) 0
+      let bits = securityFlags-bits (senderValues (q .values) (q .encryptionKey)) (identity .kind) in
+      let provider = provided b in
+      security-fit (securityFieldsOf q)
       (record {
         ST = omega arith;
         AU = bits .AU;
@@ -98,33 +96,42 @@ module _ (q : SendRequest) (a : RequestPassed q) where
         cert = request-sizes q a .cert;
         identity = rw (bits .ST) (identity .size);
         provider = rw (bits .DE) (provider .size);
-        small = omega (arith, a .small);
       })
+
+  -- S8
+  pub securityLength-pass : first q ≡ true → securityLength (securityFieldsOf q) ≤ limit
+  unfolding sectionLength propertiesAt
+  securityLength-pass e = let at : propertiesAt q ≡ securityLength (securityFieldsOf q) = rw e in omega (arith, a .small)
 
   -- S10 and S11
   pub securityContents-pass : ((i : ℕ) → getD (q .providerName) i 0 < 65536)
-      → securityContents (securityFieldsOf q) (q .senderId) (providerInfo q) 0 ≡ Passed
+      → securityContents (securityFieldsOf q) (q .senderId) (providerInfo (q .values) (q .signature) (q .providerName)) ≡ 0
   unfolding securityContents
-  securityContents-pass b = rw (identity-fits q a .head, provider-fits q a b .text)
+  securityContents-pass b =
+      let identity = identity-fits q a in
+      rw (head-alike q (identity .kind), identity .head, provided b .text)
 
-  -- P2 to P5
+  -- P2 to P4
   pub propertiesSteps-pass : ((i : ℕ) → getD (q .title) i 0 < 65536)
-      → propertiesSteps (propertiesFieldsOf q) (propertiesAt q)
-      ≡ Properties·Fits (propertiesParts (propertiesAt q) (propertiesFieldsOf q))
-  unfolding propertiesFieldsOf sectionLength
+      → propertiesSteps (propertiesFieldsOf q) ≡ 0
+  unfolding propertiesFieldsOf
   propertiesSteps-pass b =
-      let l = label-fits (title q) (title-cut (q .title) b) in
+      let l = label-fits (titleOf (q .title)) (title-cut (q .title) b) in
       let sizes = request-sizes q a in
-      properties-fit (propertiesFieldsOf q) (propertiesAt q)
+      properties-fit (propertiesFieldsOf q)
       (record {
         label = omega arith;
         class = a .class;
         body = sizes .body;
         allocation = sizes .allocation;
-        small = a .small;
       })
 
+  -- P5
+  pub sectionLength-pass : propertiesAt q + propertiesLength (propertiesFieldsOf q) ≤ limit
+  unfolding sectionLength
+  sectionLength-pass = a .small
+
   -- P7
-  pub labelContents-pass : (p : ℕ) → ((i : ℕ) → getD (q .title) i 0 < 65536) → labelContents (label q) p ≡ Passed
+  pub labelContents-pass : ((i : ℕ) → getD (q .title) i 0 < 65536) → labelContents (label (q .title)) ≡ 0
   unfolding labelContents
-  labelContents-pass p b = rw (label-fits (title q) (title-cut (q .title) b) .text)
+  labelContents-pass b = rw (label-fits (titleOf (q .title)) (title-cut (q .title) b) .text)

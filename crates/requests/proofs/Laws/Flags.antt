@@ -3,9 +3,8 @@ use Prim.Native.Nat.{ℕ, _+_, _/_, _%_, _≤_, _<_}
 use mathlib.Core.Path.{_≡_}
 use mathlib.Core.Bool.{Bool, true, false, cond}
 use native.Mathlib.Omega.{arith}
-use Rattle.requests.specs.Defaults.{encryption, kind}
-use Rattle.requests.specs.Request.{SendRequest}
 use Rattle.requests.specs.Section.{securityFlags}
+use Rattle.requests.specs.declared.properties.SenderValues.{SenderValues}
 
 -- ST, AU, EB, DE, DP and AS of a number
 pub record FlagBits (kind : ℕ) (encrypted byDefault : Bool) (flags : ℕ) : Type 0 where
@@ -23,7 +22,7 @@ flag-bits k true false h = omega arith
 flag-bits k false true h = omega arith
 flag-bits k false false h = omega arith
 
-pub securityFlags-bits : (q : SendRequest) → kind q ≤ 2
-    → FlagBits (kind q) (encryption q) (q .values .«default_provider») (securityFlags q)
+pub securityFlags-bits : (s : SenderValues) → s .kind ≤ 2
+    → FlagBits (s .kind) (s .encryption) (s .«default_provider») (securityFlags s)
 unfolding securityFlags
-securityFlags-bits q h = flag-bits (kind q) (encryption q) (q .values .«default_provider») h
+securityFlags-bits s h = flag-bits (s .kind) (s .encryption) (s .«default_provider») h

@@ -1,72 +1,69 @@
 -- What a legal request has passed, step by step, and the bounds that follow.
-use Prim.Native.Nat.{ℕ, _+_, _-_, _≤_, _<_}
-use mathlib.Core.Path.{_≡_, refl, sym, subst, _∙_}
-use mathlib.Core.Bool.{Bool, true, false, not, _&&_, _||_, cond, true≢false}
+use Prim.Native.Nat.{ℕ, _+_, _≤_, _<_}
+use mathlib.Core.Path.{_≡_, refl, sym, _∙_}
+use mathlib.Core.Bool.{Bool, true, false, not, _||_, cond, true≢false}
+use mathlib.Core.List.{List, [], _∷_}
 use native.Mathlib.Omega.{arith}
-use borrow.Author.Tests.{eqb-false, eqb-true, ltb-false, ltb-true, not-false, not-true}
-use lib.ListN.{length, length-drop}
+use borrow.Author.Tests.{ltb-false, ltb-true, not-false}
+use lib.ListN.{length}
 use lib.Dec.{eqb, ltb}
 use Rattle.rules.specs.Listed.{classes, listed}
 use Rattle.rules.specs.Refusal.{limit}
 use Rattle.rules.specs.Security.{identityHead, identitySize}
 use Rattle.rules.specs.declared.refusal.Checked.the-variants.{Passed, Refused}
 use Rattle.rules.specs.declared.refusal.Refusal.{Refusal}
-use Rattle.rules.proofs.Laws.Accepted.{neither, passed}
+use Rattle.rules.proofs.Laws.Accepted.{neither}
 use Rattle.rules.proofs.Laws.Listed.{listed-out}
-use Rattle.requests.specs.Defaults.{acknowledge, allocation, auditing, body, class, count, deliveryGiven, kind, priority, privacy, signature, signatureCount, trace}
-use Rattle.requests.specs.Request.{SendRequest, isGiven}
-use Rattle.requests.specs.Section.{packetPrivacy, sectionLength, securityFieldsOf, signed}
-use Rattle.requests.specs.Steps.{algorithmMissing, allocationFails, directPrivacy, hashMissing, identityFails, outOfRange, privacySteps, providerFails, requestSteps, sectionSteps, senderSteps, splitFails, tooLarge}
-use Rattle.requests.specs.declared.request.Number.{Number}
-use Rattle.requests.specs.declared.request.Number.the-variants.{Absent, Given}
+use Rattle.requests.specs.Defaults.{acknowledge, allocation, auditing, bodyOf, class, deliveryGiven, kind, priority, privacy, signatureOf, trace}
+use Rattle.requests.specs.Request.{SendRequest}
+use Rattle.requests.specs.Section.{packetPrivacy, sectionLength}
+use Rattle.requests.specs.Steps.{allocationFails, firstFailure, identityFails, identityFields, outOfRange, providerFails, requestSteps, splitFails, steps, tooLarge}
 
 -- a refusal is no passing
 refused≢ : {r : Refusal} → ¬ (Refused r ≡ Passed)
 refused≢ e = let z : _≡_ {A = ℕ} 0 1 = cc in omega arith
 
+-- a step that passed: its test is false, and the answer is that of the steps after it
+passed : {A : Type 0} (b : Bool) {x y z : A} → ¬ (x ≡ z) → cond b x y ≡ z → (b ≡ false) × (y ≡ z)
+passed true other e = absurd (other e)
+passed false other e = (refl, e)
+
+-- no step fails
+abbrev AllPass : List (Bool × ℕ) → Type 0
+AllPass [] = Unit {0}
+AllPass (s ∷ ss) = (s .0 ≡ false) × AllPass ss
+
+all-passed : (ss : List (Bool × ℕ)) → firstFailure ss ≡ Passed → AllPass ss
+unfolding firstFailure
+all-passed [] e = tt
+all-passed (s ∷ ss) e = let p = passed (s .0) refused≢ e in (p .0, all-passed ss (p .1))
+
+-- what is used of that
 pub record RequestPassed (q : SendRequest) : Type 0 where
   pub ranges : outOfRange (q .values) ≡ false
-  pub class : listed classes (class q) ≡ true
+  pub class : listed classes (class (q .values)) ≡ true
   pub privacy : privacy (q .values) ≤ 2
-  pub direct : directPrivacy (q .values) ≡ false
-  pub algorithm : algorithmMissing (q .values) ≡ false
-  pub hash : hashMissing (q .values) (q .signature) ≡ false
-  pub identity : identityFails q ≡ false
-  pub provider : providerFails q ≡ false
-  pub split : splitFails q ≡ false
-  pub sizes : tooLarge q ≡ false
-  pub allocation : allocationFails q ≡ false
+  pub identity : identityFails (q .values) (q .senderId) ≡ false
+  pub provider : providerFails (q .values) (q .signature) (q .providerName) ≡ false
+  pub split : splitFails (q .values) (q .signature) ≡ false
+  pub sizes : tooLarge (q .values) (q .encryptionKey) (q .signature) (q .senderCert) ≡ false
+  pub allocation : allocationFails (q .values) (q .body) ≡ false
   pub small : sectionLength q ≤ limit
 
--- a legal request has passed each step
 pub request-passed : (q : SendRequest) → requestSteps q ≡ Passed → RequestPassed q
-unfolding requestSteps privacySteps senderSteps sectionSteps
+unfolding requestSteps steps
 request-passed q e =
-    let ranges = passed (outOfRange (q .values)) refused≢ e in
-    let listing = passed (not (listed classes (class q))) refused≢ (ranges .1) in
-    let level = passed (ltb 2 (privacy (q .values))) refused≢ (listing .1) in
-    let direct = passed (directPrivacy (q .values)) refused≢ (level .1) in
-    let algorithm = passed (algorithmMissing (q .values)) refused≢ (direct .1) in
-    let hash = passed (hashMissing (q .values) (q .signature)) refused≢ (algorithm .1) in
-    let identity = passed (identityFails q) refused≢ (hash .1) in
-    let provider = passed (providerFails q) refused≢ (identity .1) in
-    let split = passed (splitFails q) refused≢ (provider .1) in
-    let sizes = passed (tooLarge q) refused≢ (split .1) in
-    let allocated = passed (allocationFails q) refused≢ (sizes .1) in
-    let length = passed (ltb limit (sectionLength q)) refused≢ (allocated .1) in
+    let p = all-passed (steps q) e in
     record {
-      ranges = ranges .0;
-      class = not-false (listed classes (class q)) (listing .0);
-      privacy = ltb-false 2 (privacy (q .values)) (level .0);
-      direct = direct .0;
-      algorithm = algorithm .0;
-      hash = hash .0;
-      identity = identity .0;
-      provider = provider .0;
-      split = split .0;
-      sizes = sizes .0;
-      allocation = allocated .0;
-      small = ltb-false limit (sectionLength q) (length .0);
+      ranges = search;
+      class = not-false (listed classes (class (q .values))) (search);
+      privacy = ltb-false 2 (privacy (q .values)) (search);
+      identity = search;
+      provider = search;
+      split = search;
+      sizes = search;
+      allocation = search;
+      small = ltb-false limit (sectionLength q) (search);
     }
 
 -- 1
@@ -89,81 +86,38 @@ class-small c e = go (ltb c 65536) refl
 
 -- 3
 pub record Identity (q : SendRequest) : Type 0 where
-  pub size : identitySize (kind q) (length (q .senderId)) ≡ true
-  pub head : identityHead (securityFieldsOf q) (q .senderId) ≡ true
-  pub kind : kind q ≤ 2
+  pub size : identitySize (kind (q .values)) (length (q .senderId)) ≡ true
+  pub head : identityHead (identityFields (kind (q .values)) (length (q .senderId))) (q .senderId) ≡ true
+  pub kind : kind (q .values) ≤ 2
 
 pub identity-fits : (q : SendRequest) → RequestPassed q → Identity q
 unfolding identityFails
 identity-fits q a =
-    let sized = identitySize (kind q) (length (q .senderId)) in
-    let head = identityHead (securityFieldsOf q) (q .senderId) in
-    let two = neither (ltb 2 (kind q) || not sized) (not head) (a .identity) in
-    let one = neither (ltb 2 (kind q)) (not sized) (two .0) in
-    record {
-      size = not-false sized (one .1);
-      head = not-false head (two .1);
-      kind = ltb-false 2 (kind q) (one .0);
-    }
-
--- 5: of a signature some bytes are kept
-kept : (n : Number) (given name : ℕ) → 0 < given
-    → (isGiven n && (ltb (signatureCount given name n) 1 || ltb given (signatureCount given name n))) ≡ false
-    → (0 < signatureCount given name n) × (signatureCount given name n ≤ given)
-unfolding isGiven signatureCount
-kept Absent given name some e = (some, omega arith)
-kept (Given split) given name some e =
-    let both = neither (ltb (split - name) 1) (ltb given (split - name)) e in
-    (ltb-false (split - name) 1 (both .0), ltb-false given (split - name) (both .1))
-
-pub length-signature : (q : SendRequest) → length (signature q) ≡ length (q .signature) - (length (q .signature) - count q)
-unfolding signature
-length-signature q = simp length-drop
-
-pub record Kept (q : SendRequest) : Type 0 where
-  pub some : 0 < length (signature q)
-  pub size : length (signature q) ≡ count q
-  pub within : count q ≤ length (q .signature)
-
-pub signature-kept : (q : SendRequest) → RequestPassed q → signed q ≡ true → Kept q
-unfolding splitFails
-signature-kept q a s =
-    let given = length (q .signature) in
-    let split = isGiven (q .values .«split_number») in
-    let fails = ltb (count q) 1 || ltb given (count q) in
-    let e : (split && fails) ≡ false = subst (λ (b : Bool). (b && split && fails) ≡ false) s (a .split) in
-    let some : ¬ (given ≡ 0) = eqb-false given 0 (not-true (eqb given 0) s) in
-    let k = kept (q .values .«split_number») given (q .values .«provider_name_length») (omega arith) e in
-    let n : length (signature q) ≡ given - (given - count q) = length-signature q in
-    record { some = omega (arith, k .0, k .1); size = omega (arith, k .0, k .1); within = k .1 }
-
-pub signature-none : (q : SendRequest) → signed q ≡ false → length (signature q) ≡ 0
-signature-none q s =
-    omega (arith, length-signature q, eqb-true (length (q .signature)) 0 (not-false (eqb (length (q .signature)) 0) s))
+    let k = kind (q .values) in
+    let sized = identitySize k (length (q .senderId)) in
+    let head = identityHead (identityFields k (length (q .senderId))) (q .senderId) in
+    let two = neither (ltb 2 k || not sized) (not head) (a .identity) in
+    let one = neither (ltb 2 k) (not sized) (two .0) in
+    record { size = not-false sized (one .1); head = not-false head (two .1); kind = ltb-false 2 k (one .0) }
 
 -- 6
 pub record Sizes (q : SendRequest) : Type 0 where
-  pub key : length (q .encryptionKey) ≤ 65535
-  pub signature : length (signature q) ≤ 65535
   pub cert : length (q .senderCert) ≤ 65535
-  pub body : length (body q) ≤ allocation q
-  pub allocation : allocation q ≤ limit
+  pub body : length (bodyOf (q .values) (q .body)) ≤ allocation (q .values)
+  pub allocation : allocation (q .values) ≤ limit
 
 pub request-sizes : (q : SendRequest) → RequestPassed q → Sizes q
 unfolding tooLarge allocationFails
 request-sizes q a =
-    let key = ltb 65535 (length (q .encryptionKey)) in
-    let sign = ltb 65535 (length (signature q)) in
+    let parts = ltb 65535 (length (q .encryptionKey)) || ltb 65535 (length (signatureOf (q .values) (q .signature))) in
     let cert = ltb 65535 (length (q .senderCert)) in
-    let two = neither (key || sign) cert (a .sizes) in
-    let one = neither key sign (two .0) in
-    let allocated = neither (ltb (allocation q) (length (body q))) (ltb limit (allocation q)) (a .allocation) in
+    let n = allocation (q .values) in
+    let body = length (bodyOf (q .values) (q .body)) in
+    let allocated = neither (ltb n body) (ltb limit n) (a .allocation) in
     record {
-      key = ltb-false 65535 (length (q .encryptionKey)) (one .0);
-      signature = ltb-false 65535 (length (signature q)) (one .1);
-      cert = ltb-false 65535 (length (q .senderCert)) (two .1);
-      body = ltb-false (allocation q) (length (body q)) (allocated .0);
-      allocation = ltb-false limit (allocation q) (allocated .1);
+      cert = ltb-false 65535 (length (q .senderCert)) (neither parts cert (a .sizes) .1);
+      body = ltb-false n body (allocated .0);
+      allocation = ltb-false limit n (allocated .1);
     }
 
 -- the packet's privacy

@@ -14,11 +14,11 @@ use Rattle.octets.specs.Text.{unitBytes, zeros}
 use Rattle.octets.proofs.Laws.Number.{length-toLe}
 use Rattle.octets.proofs.Laws.UnitBytes.{isText-ended}
 use Rattle.rules.specs.Security.{providerSize, providerText}
-use Rattle.requests.specs.Defaults.{providerType, signature}
-use Rattle.requests.specs.Request.{SendRequest}
+use Rattle.requests.specs.Defaults.{providerType, signatureOf}
 use Rattle.requests.specs.Section.{providerInfo, signed}
-use Rattle.requests.specs.Steps.{isOne, nameFits, providerFails, withoutZero}
-use Rattle.requests.proofs.Laws.Legal.{RequestPassed, signature-kept, signature-none}
+use Rattle.requests.specs.Steps.{isOne, nameFits, providerFails, splitFails, withoutZero}
+use Rattle.requests.specs.declared.request.Request.{Request}
+use Rattle.requests.proofs.Laws.Signature.{signature-none, signature-some}
 use Rattle.requests.proofs.Laws.Text.{length-info}
 
 withoutZero-zeros : (us : List ℕ) → withoutZero us ≡ true → zeros us ≡ 0
@@ -33,7 +33,7 @@ pub record Name (us : List ℕ) : Type 0 where
   pub small : length us ≤ 1024
   pub zeros : zeros us ≡ 0
 
-pub name-fits : (us : List ℕ) → nameFits us ≡ true → Name us
+name-fits : (us : List ℕ) → nameFits us ≡ true → Name us
 unfolding nameFits
 name-fits us e =
     let none = eqb (length us) 0 in
@@ -48,82 +48,90 @@ name-fits us e =
     }
 
 -- a type and a name with a null added
-abbrev pub typeAndName : SendRequest → List ℕ
-typeAndName q = toLe 4 (providerType q) ++ unitBytes (q .providerName ++ (0 ∷ []))
+abbrev pub typeAndName : Request → List ℕ → List ℕ
+typeAndName v name = toLe 4 (providerType v) ++ unitBytes (name ++ (0 ∷ []))
 
-record Info (info : List ℕ) (name : List ℕ) : Type 0 where
-  size : length info ≡ 6 + 2 * length name
-  text : providerText info ≡ true
+-- when provider info is written
+pub info-unsigned : (v : Request) (s name : List ℕ) → length s ≡ 0 → providerInfo v s name ≡ []
+unfolding providerInfo
+info-unsigned v s name e = rw (eq-eqb (length s) 0 e)
 
-info-of : (n : ℕ) (us : List ℕ) → ((i : ℕ) → getD us i 0 < 65536) → zeros us ≡ 0
-    → Info (toLe 4 n ++ unitBytes (us ++ (0 ∷ []))) us
-unfolding providerText
-info-of n us b none =
-    let ended = us ++ (0 ∷ []) in
-    let info = toLe 4 n ++ unitBytes ended in
-    let name : drop 4 info ≡ unitBytes ended = drop-at (toLe 4 n) (unitBytes ended) 4 (length-toLe 4 n) in
-    record {
-      size = omega (arith, length-info n us);
-      text = rw (name, isText-ended us b none) (or-true (eqb (length info) 0));
-    }
+pub info-default : (v : Request) (s name : List ℕ) → v .«default_provider» ≡ true → providerInfo v s name ≡ []
+unfolding providerInfo
+info-default v s name e = rw (e, and-false (signed s))
 
--- where provider info is written, a name was needed
+pub info-other : (v : Request) (s name : List ℕ) → ¬ (length s ≡ 0) → v .«default_provider» ≡ false
+    → providerInfo v s name ≡ typeAndName v name
+unfolding providerInfo
+info-other v s name some e = rw (ne-eqb (length s) 0 some, e)
+
+pub info-most : (v : Request) (s name : List ℕ) → length (providerInfo v s name) ≤ 2 * length name + 6
+unfolding providerInfo
+info-most v s name = go (signed s && not (v .«default_provider»))
+  where
+    go : (b : Bool) → length (cond b (typeAndName v name) []) ≤ 2 * length name + 6
+    go true = omega (arith, length-info (providerType v) name)
+    go false = omega arith
+
+-- and then it is not empty
+pub info-written : (v : Request) (s name : List ℕ) → ¬ (providerInfo v s name ≡ []) → providerInfo v s name ≡ typeAndName v name
+unfolding providerInfo
+info-written v s name some = go (signed s && not (v .«default_provider»)) some
+  where
+    go : (b : Bool) → ¬ (cond b (typeAndName v name) [] ≡ []) → cond b (typeAndName v name) [] ≡ typeAndName v name
+    go true some = refl
+    go false some = absurd (some refl)
+
+-- S7 and S11
+pub record Provider (de signature : ℕ) (info : List ℕ) : Type 0 where
+  pub size : providerSize de signature (length info) ≡ true
+  pub text : providerText info ≡ true
+
+-- a name that 4 let pass, where it is looked at
 named : (s d one name : Bool) → (s && not (cond d one name)) ≡ false → s ≡ true → d ≡ false → name ≡ true
 named true false one name e f g = not-false name e
 named true true one name e f g = absurd (true≢false g)
 named false d one name e f g = absurd (false≢true f)
 
--- S7, S11 and a bound
-pub record Provider (de signature : ℕ) (info : List ℕ) : Type 0 where
-  pub size : providerSize de signature (length info) ≡ true
-  pub text : providerText info ≡ true
-  pub small : length info ≤ 2054
-
-pub provider-named : (q : SendRequest) → RequestPassed q → signed q ≡ true → q .values .«default_provider» ≡ false
-    → Name (q .providerName)
+pub provider-named : (v : Request) (s name : List ℕ) → providerFails v s name ≡ false → signed s ≡ true
+    → v .«default_provider» ≡ false → Name name
 unfolding providerFails
-provider-named q a s d =
-    let one = isOne (q .values .«provider_type») in
-    name-fits (q .providerName)
-    (named (signed q) (q .values .«default_provider») one (nameFits (q .providerName)) (a .provider) s d)
+provider-named v s name a e d =
+    name-fits name (named (signed s) (v .«default_provider») (isOne (v .«provider_type»)) (nameFits name) a e d)
 
-pub provider-fits : (q : SendRequest) → RequestPassed q → ((i : ℕ) → getD (q .providerName) i 0 < 65536)
-    → Provider (cond (q .values .«default_provider») 1 0) (length (signature q)) (providerInfo q)
+-- it has at most 1,024 units, and two for the null and the type
+pub info-small : (v : Request) (s name : List ℕ) → providerFails v s name ≡ false → length (providerInfo v s name) ≤ 2054
+unfolding providerInfo
+info-small v s name a = go (signed s) (v .«default_provider») refl refl
+  where
+    go : (signs d : Bool) → signed s ≡ signs → v .«default_provider» ≡ d → length (cond (signs && not d) (typeAndName v name) []) ≤ 2054
+    go true false e f = omega (arith, length-info (providerType v) name, provider-named v s name a e f .small)
+    go true true e f = omega arith
+    go false d e f = omega arith
+
+info-fits : (v : Request) (s name : List ℕ) → ((i : ℕ) → getD name i 0 < 65536) → 0 < length (signatureOf v s) → Name name
+    → Provider 0 (length (signatureOf v s)) (typeAndName v name)
+unfolding providerSize providerText
+info-fits v s name b some n =
+    let ended = name ++ (0 ∷ []) in
+    let info = typeAndName v name in
+    let size : 4 + 2 * (length name + 1) ≡ length info = length-info (providerType v) name in
+    let rest : drop 4 info ≡ unitBytes ended = drop-at (toLe 4 (providerType v)) (unitBytes ended) 4 (length-toLe 4 (providerType v)) in
+    let even = eq-eqb (length info % 2) 0 (omega arith) in
+    let least = le-leb 8 (length info) (omega (arith, n .some)) in
+    record {
+      size = rw (lt-ltb 0 (length (signatureOf v s)) some, even, least);
+      text = rw (rest, isText-ended name b (n .zeros)) (or-true (eqb (length info) 0));
+    }
+
+pub provider-fits : (v : Request) (s name : List ℕ) → ((i : ℕ) → getD name i 0 < 65536) → providerFails v s name ≡ false
+    → splitFails v s ≡ false → Provider (cond (v .«default_provider») 1 0) (length (signatureOf v s)) (providerInfo v s name)
 unfolding providerInfo providerSize providerText
-provider-fits q a b = go (signed q) (q .values .«default_provider») refl refl
+provider-fits v s name b a split = go (signed s) (v .«default_provider») refl refl
   where
-    go : (s d : Bool) → signed q ≡ s → q .values .«default_provider» ≡ d
-        → Provider (cond d 1 0) (length (signature q)) (cond (s && not d) (typeAndName q) [])
-    go true true e f = record { size = refl; text = refl; small = omega arith }
-    go false true e f = record { size = refl; text = refl; small = omega arith }
-    go false false e f = record { size = rw (signature-none q e); text = refl; small = omega arith }
-    go true false e f =
-        let name = provider-named q a e f in
-        let i = info-of (providerType q) (q .providerName) b (name .zeros) in
-        let some = lt-ltb 0 (length (signature q)) (signature-kept q a e .some) in
-        let even = eq-eqb (length (typeAndName q) % 2) 0 (omega arith) in
-        record { size = rw (some, even, le-leb 8 (length (typeAndName q)) (omega arith)); text = i .text; small = omega arith }
-
--- provider info that is not empty is a type and a name
-pub info-written : (q : SendRequest) → ¬ (providerInfo q ≡ [])
-    → providerInfo q ≡ typeAndName q
-unfolding providerInfo
-info-written q some = go (signed q && not (q .values .«default_provider»)) some
-  where
-    go : (b : Bool) → ¬ (cond b (typeAndName q) [] ≡ []) → cond b (typeAndName q) [] ≡ typeAndName q
-    go true some = refl
-    go false some = absurd (some refl)
-
--- when provider info is written
-pub info-unsigned : (q : SendRequest) → length (q .signature) ≡ 0 → providerInfo q ≡ []
-unfolding providerInfo
-info-unsigned q e = rw (eq-eqb (length (q .signature)) 0 e)
-
-pub info-default : (q : SendRequest) → q .values .«default_provider» ≡ true → providerInfo q ≡ []
-unfolding providerInfo
-info-default q e = rw (e, and-false (signed q))
-
-pub info-other : (q : SendRequest) → ¬ (length (q .signature) ≡ 0) → q .values .«default_provider» ≡ false
-    → providerInfo q ≡ typeAndName q
-unfolding providerInfo
-info-other q some e = rw (ne-eqb (length (q .signature)) 0 some, e)
+    go : (signs d : Bool) → signed s ≡ signs → v .«default_provider» ≡ d
+        → Provider (cond d 1 0) (length (signatureOf v s)) (cond (signs && not d) (typeAndName v name) [])
+    go true true e f = record { size = refl; text = refl }
+    go false true e f = record { size = refl; text = refl }
+    go false false e f = record { size = rw (signature-none v s e); text = refl }
+    go true false e f = info-fits v s name b (signature-some v s split e) (provider-named v s name a e f)

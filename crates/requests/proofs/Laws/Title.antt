@@ -5,14 +5,14 @@ use mathlib.Core.Bool.{true, or-true}
 use mathlib.Core.List.{List, [], _∷_, _++_}
 use native.Mathlib.Nat.{zero-add}
 use native.Mathlib.Omega.{arith}
-use lib.ListN.{length, getD, take}
+use lib.ListN.{length, getD, take, length-take}
 use lib.Dec.{eqb, eqb·suc-zero}
 use Rattle.octets.specs.Text.{unitBytes, zeros}
 use Rattle.octets.proofs.Laws.UnitBytes.{isText-ended}
 use Rattle.rules.specs.Properties.{labelText}
 use Rattle.requests.specs.Defaults.{beforeZero, titleOf}
 use Rattle.requests.specs.Section.{labelWith}
-use Rattle.requests.proofs.Laws.Text.{length-first, length-nulled}
+use Rattle.requests.proofs.Laws.Text.{length-nulled}
 
 -- no unit of what stands before the first zero is zero, however it is cut
 cut-zeros : (n : ℕ) (us : List ℕ) → zeros (take n (beforeZero us)) ≡ 0
@@ -45,7 +45,7 @@ title-first us = cut-first 249 us
 
 pub title-small : (us : List ℕ) → length (titleOf us) ≤ 249
 unfolding titleOf
-title-small us = length-first 249 (beforeZero us) .0
+title-small us = omega (arith, length-take 249 (beforeZero us))
 
 -- a title as cut
 pub record Cut (us : List ℕ) : Type 0 where

@@ -1,52 +1,61 @@
--- The loop's invariant: the first `i` units stand before the first zero. The measure is how many more do.
-use Prim.Native.Nat.{_-_, _≤_, _<_}
+-- The loop's invariant: none of the first `i` units is zero. The measure is what is left of them.
+use Prim.Native.Nat.{_-_, _≤_}
 use denote.Ref.{now}
-use mathlib.Core.Path.{_∙_, sym}
+use mathlib.Core.Path.{_≡_, refl, ap, sym, _∙_}
+use mathlib.Core.Bool.{true, not, _&&_}
+use native.Mathlib.Numerals.{add-one}
 use native.Mathlib.Omega.{arith}
-use borrow.Author.Tests.{ltb-false, ltb-true}
-use lib.ListN.{length, take}
-use Rattle.requests.specs.Defaults.{beforeZero}
-use Rattle.requests.proofs.Laws.Text.{length-beforeZero, length-first}
+use borrow.Author.Needs.{needs}
+use borrow.Author.Tests.{ne-eqb}
+use lib.ListN.{length, getD, take, List·getD-eq-default}
+use lib.Seq.{take-all}
+use Rattle.requests.specs.Steps.{withoutZero}
+use Rattle.requests.proofs.Laws.Text.{beforeZero-counted, withoutZero-more}
 use Rattle.requests.proofs.text.before_zero.Statement.{statement}
 use Rattle.requests.proofs.text.before_zero.Tie as tie
 
 abbrev Inv-loop : tie.InvT-loop
-Inv-loop units most i₀ i = i ≤ length (take most (beforeZero units))
+Inv-loop units i₀ i = (i ≤ length units) × (withoutZero (take i units) ≡ true)
 
 abbrev μ-loop : tie.MeasureT-loop
-μ-loop units most i₀ i = length (take most (beforeZero units)) - i
-
--- one more does where the loop's test says so
-more : (c : tie.Then1 Inv-loop μ-loop) → c .before .before .loop .i < length (take (c .before .before .before .before .args .most) (beforeZero (now (c .before .before .before .before .args .units))))
-more c =
-    let a = c .before .before .before .before .args in
-    ltb-true (c .before .before .loop .i) (length (take (a .most) (beforeZero (now (a .units))))) (sym (c .before .goes-on .ensures) ∙ c .if1 .taken)
-
-loop-holds : tie.Need-loop-holds Inv-loop μ-loop
-loop-holds c = omega arith
-
-goes-on-requires : tie.Need-goes-on-requires Inv-loop μ-loop
-goes-on-requires c κs = c .loop .inv
-
-add-i : tie.Need-add-i Inv-loop μ-loop
-add-i c =
-    let a = c .before .before .before .before .args in
-    let us = now (a .units) in
-    omega (arith, more c, length-first (a .most) (beforeZero us) .1, length-beforeZero us)
-
-loop-less : tie.Need-loop-less Inv-loop μ-loop
-loop-less c = omega (arith, more c)
-
-loop-again : tie.Need-loop-again Inv-loop μ-loop
-loop-again c = omega (arith, more c)
+μ-loop units i₀ i = length units - i
 
 returns : tie.Need-returns Inv-loop μ-loop
 returns c =
-    let l = c .before .before .loop in
-    let a = c .before .before .before .before .args in
-    omega (arith, l .inv, ltb-false (l .i) (length (take (a .most) (beforeZero (now (a .units))))) (sym (c .before .goes-on .ensures) ∙ c .if1 .left))
+    let us = now (c .before .before .before .args .units) in
+    let none = ap withoutZero (take-all (length us) us (omega arith)) ∙ sym (c .before .without-zero .ensures) ∙ c .if1 .taken in
+    sym (beforeZero-counted us (length us) (omega arith) none (List·getD-eq-default us 0 {n = length us} (omega arith)))
+
+loop-again : tie.Need-loop-again Inv-loop μ-loop
+loop-again c =
+    let l = c .before .before .before .loop in
+    let us = now (c .before .before .before .before .before .before .before .args .units) in
+    let more = withoutZero-more us (l .i) (omega arith) in
+    (omega arith, rw add-one (sym more ∙ rw (l .inv .1, ne-eqb (getD us (l .i) 0) 0 (c .if2 .left))))
+
+returns-3 : tie.Need-returns-3 Inv-loop μ-loop
+returns-3 c =
+    let l = c .before .loop in
+    let us = now (c .before .before .before .before .before .args .units) in
+    sym (beforeZero-counted us (l .i) (l .inv .0) (l .inv .1) (List·getD-eq-default us 0 {n = l .i} (omega arith)))
 
 pub before-zero-spec : {M : Type 1} → statement M
+unfolding withoutZero
 before-zero-spec =
     tie.close
-    (tie.spec Inv-loop μ-loop loop-holds goes-on-requires add-i loop-less loop-again returns)
+    (tie.spec
+    Inv-loop
+    μ-loop
+    (λ c κs. search needs)
+    (λ c. omega arith)
+    returns
+    (λ c. (omega arith, refl))
+    (λ c. omega arith)
+    (λ c. omega arith)
+    (λ c. omega arith)
+    (λ c. let l = c .before .before .before .loop in sym (beforeZero-counted _ (l .i) (l .inv .0) (l .inv .1) (c .if2 .taken)))
+    (λ c. omega arith)
+    (λ c. omega arith)
+    loop-again
+    (λ c. omega arith)
+    returns-3)

@@ -101,7 +101,7 @@ fn correlation_id(bytes: &[u8]) -> CorrelationId {
     let mut id = [0u8; 20];
     let mut i = 0;
     while i < 20 {
-        id[i] = u8_at(bytes, i);
+        id[i] = u8_at(bytes, Bytes(i));
         i += 1;
     }
     id

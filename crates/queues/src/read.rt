@@ -7,6 +7,7 @@ use crate::steps::fixed_size;
 use crate::steps::format_steps;
 use crate::steps::refusal_of;
 use crate::steps::text_steps;
+use octets::count::Bytes;
 use rules::layout::part;
 use rules::refusal;
 use rules::refusal::Checked;
@@ -17,31 +18,31 @@ ghost use Rattle.queues.specs.Read.{afterSteps, formatOf, readImage, val
 ghost use Rattle.queues.specs.Steps.{valueSteps};
 
 // The value of a type, whose string is `text` bytes long.
-fn value_of(kind: u8, text: usize) -> Value
-    ensures { λ r. ⌜ r ≡ valueOf kind text ⌝ }
+fn value_of(kind: u8, text: Bytes) -> Value
+    ensures { λ r. ⌜ r ≡ valueOf kind (text .0) ⌝ }
 {
     if kind == QueueFormat::TYPE_UNKNOWN {
         return Value::Nothing;
     }
     if kind == QueueFormat::TYPE_PUBLIC {
-        return Value::Guid(part(4, 16));
+        return Value::Guid(part(Bytes(4), Bytes(16)));
     }
     if kind == QueueFormat::TYPE_MACHINE {
-        return Value::Guid(part(4, 16));
+        return Value::Guid(part(Bytes(4), Bytes(16)));
     }
     if kind == QueueFormat::TYPE_CONNECTOR {
-        return Value::Guid(part(4, 16));
+        return Value::Guid(part(Bytes(4), Bytes(16)));
     }
     if kind == QueueFormat::TYPE_PRIVATE {
-        return Value::ObjectId(part(4, 20));
+        return Value::ObjectId(part(Bytes(4), Bytes(20)));
     }
     if kind == QueueFormat::TYPE_MULTICAST {
-        return Value::MulticastId(part(4, 8));
+        return Value::MulticastId(part(Bytes(4), Bytes(8)));
     }
     if kind == QueueFormat::TYPE_DL {
-        return Value::GuidAndText(part(4, 16), part(20, text));
+        return Value::GuidAndText(part(Bytes(4), Bytes(16)), part(Bytes(20), text));
     }
-    Value::Text(part(4, text))
+    Value::Text(part(Bytes(4), text))
 }
 
 // 32, 33
@@ -60,7 +61,7 @@ fn read_value(s: &[u8], format: QueueFormat) -> ImageRead
         Checked::Refused(r) => ImageRead::Refused(r),
         Checked::Passed => ImageRead::Accepted(Image {
             format,
-            value: value_of(kind, s.len() - at),
+            value: value_of(kind, Bytes(s.len() - at)),
         }),
     }
 }

@@ -49,8 +49,8 @@ enum-known-r c = search needs
 enum-told : tie.Need-enum-told
 enum-told c = search needs
 
-sub-value-of : tie.Need-sub-value-of
-sub-value-of c = search needs
+sub-t17 : tie.Need-sub-t17
+sub-t17 c = search needs
 
 value-of-requires : tie.Need-value-of-requires
 value-of-requires c κs = search needs
@@ -89,7 +89,7 @@ read-value-spec =
     text-steps-requires
     enum-known-r
     enum-told
-    sub-value-of
+    sub-t17
     value-of-requires
     returns-2
     returns-3)

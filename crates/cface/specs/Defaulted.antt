@@ -5,7 +5,7 @@ use mathlib.Core.List.{List}
 use lib.ListN.{replicate}
 use Rattle.rules.specs.Refusal.{bytes}
 use Rattle.rules.specs.Security.{part}
-use Rattle.requests.specs.Defaults.{correlation}
+use Rattle.requests.specs.Defaults.{correlationOf}
 use Rattle.requests.specs.Request.{SendRequest}
 use Rattle.requests.specs.Steps.{defaulted}
 use Rattle.requests.specs.declared.properties.Defaulted.{Defaulted}
@@ -119,5 +119,5 @@ answerWith id (Defaulted·Properties p) =
 answerWith id (Defaulted·Refused r) =
     record { refusal = r; properties = noDefaulted; «correlation_id» = replicate 20 0 }
 
-unfoldable pub defaultedAnswer : SendRequest → UgbDefaulted
-defaultedAnswer q = answerWith (correlation q) (defaulted q)
+unfoldable pub defaultedAnswer : SendRequest → List ℕ → UgbDefaulted
+defaultedAnswer q correlationId = answerWith (correlationOf (q .values) correlationId) (defaulted q)

@@ -228,10 +228,9 @@ pub extern "C" fn ugb_defaulted(
     extension: &[u8],
     body: &[u8],
 ) -> UgbDefaulted
-    ensures { λ r. ⌜ r ≡ defaultedAnswer (sendRequest (requestOf request) (now («correlation_id» .entry)) (now (title .entry)) (now («sender_id» .entry)) (now («encryption_key» .entry)) (now (signature .entry)) (now («sender_cert» .entry)) (now («provider_name» .entry)) (now (extension .entry)) (now (body .entry))) ⌝ }
+    ensures { λ r. ⌜ r ≡ defaultedAnswer (sendRequest (requestOf request) title «sender_id» «encryption_key» signature «sender_cert» «provider_name» extension body) (now («correlation_id» .entry)) ⌝ }
 {
     let given = request_of(request);
-    let correlation = given.correlation;
     match defaulted(
         given,
         title,
@@ -251,7 +250,7 @@ pub extern "C" fn ugb_defaulted(
         Defaulted::Properties(p) => UgbDefaulted {
             refusal: no_refusal(),
             properties: properties_answer(p),
-            correlation_id: correlation_of(correlation, *correlation_id),
+            correlation_id: correlation_of(given, *correlation_id),
         },
     }
 }

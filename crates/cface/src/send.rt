@@ -25,8 +25,8 @@ pub extern "C" fn ugb_send(
     body: &[u8],
     out: &mut [u8],
 ) -> UgbOutput
-    ensures { λ r. ⌜ r ≡ outputAnswer (sendAnswer (sendRequest (requestOf request) (now («correlation_id» .entry)) (now (title .entry)) (now («sender_id» .entry)) (now («encryption_key» .entry)) (now (signature .entry)) (now («sender_cert» .entry)) (now («provider_name» .entry)) (now (extension .entry)) (now (body .entry))) (now (out .entry))) ⌝ }
-    ensures { λ _. ⌜ now (out .exit) ≡ sendBytes (sendRequest (requestOf request) (now («correlation_id» .entry)) (now (title .entry)) (now («sender_id» .entry)) (now («encryption_key» .entry)) (now (signature .entry)) (now («sender_cert» .entry)) (now («provider_name» .entry)) (now (extension .entry)) (now (body .entry))) (now (out .entry)) ⌝ }
+    ensures { λ r. ⌜ r ≡ outputAnswer (sendAnswer (sendRequest (requestOf request) title «sender_id» «encryption_key» signature «sender_cert» «provider_name» extension body) (now (out .entry))) ⌝ }
+    ensures { λ _. ⌜ now (out .exit) ≡ sendBytes (sendRequest (requestOf request) title «sender_id» «encryption_key» signature «sender_cert» «provider_name» extension body) (now («correlation_id» .entry)) (now (out .entry)) ⌝ }
 {
     output_answer(send(
         request_of(request),

@@ -2,4 +2,3 @@ pub mod Carried
 pub mod Given
 pub mod Send
 pub mod Units
-pub mod Values

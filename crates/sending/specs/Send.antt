@@ -1,63 +1,77 @@
 -- 01, "Send requests": the section of a request, through the section writer, and what the sender answers.
 use Prim.Native.Nat.{ℕ}
-use mathlib.Core.Bool.{cond}
+use mathlib.Core.Bool.{Bool, false, cond}
 use mathlib.Core.List.{List, _++_}
 use lib.ListN.{length, drop}
 use lib.Dec.{ltb}
 use Rattle.rules.specs.Refusal.{bytes, refusal}
-use Rattle.rules.specs.declared.refusal.Checked.{Checked}
-use Rattle.rules.specs.declared.refusal.Checked.the-variants.{Passed, Refused}
 use Rattle.rules.specs.declared.section.Output.{Output}
 use Rattle.rules.specs.declared.section.Output.the-variants.{Written, Refused as Output·Refused}
 use Rattle.writing.specs.Given.{Given}
 use Rattle.writing.specs.Writing.{sectionBytes}
-use Rattle.requests.specs.Defaults.{acknowledge, allocation, body, bodyType, class, correlation, encryptionAlgorithm, hash, privacy, signature, tag}
+use Rattle.writing.specs.declared.values.SectionValues.{SectionValues}
+use Rattle.requests.specs.Defaults.{bodyOf, correlationOf, properties, signatureOf}
 use Rattle.requests.specs.Request.{SendRequest}
-use Rattle.requests.specs.Section.{label, packetPrivacy, providerInfo, sectionLength, securityFirst, securityFlags}
-use Rattle.requests.specs.Steps.{requestSteps}
+use Rattle.requests.specs.Section.{first, label, packetPrivacy, providerInfo, sectionLength, securityFlags}
+use Rattle.requests.specs.Steps.{defaulted}
+use Rattle.requests.specs.declared.properties.Defaulted.{Defaulted}
+use Rattle.requests.specs.declared.properties.Defaulted.the-variants.{Properties as Defaulted·Properties, Refused as Defaulted·Refused}
+use Rattle.requests.specs.declared.properties.Properties.{Properties}
+use Rattle.requests.specs.declared.properties.Sender.{Sender}
+use Rattle.requests.specs.declared.properties.Sender.the-variants.{Known, NotKnown}
+use Rattle.requests.specs.declared.properties.SenderValues.{SenderValues}
 
--- the values and parts of the section
-unfoldable pub givenBy : SendRequest → Given
-givenBy q =
+-- a sender who is not known has kind 0 and no mark; a request's is known
+unfoldable pub senderOr : Sender → SenderValues
+senderOr (Known values) = values
+senderOr NotKnown = record { kind = 0; «default_provider» = false; encryption = false }
+
+-- the values of the section: the defaulted properties, privacy mapped
+unfoldable pub valuesOf : Properties → Bool → SectionValues
+valuesOf p first =
     record {
-      values =
-          record {
-            «security_first» = securityFirst q;
-            «security_flags» = securityFlags q;
-            flags = acknowledge (q .values);
-            «message_class» = class q;
-            «body_type» = bodyType q;
-            «application_tag» = tag q;
-            «allocation_body_size» = bytes (allocation q);
-            «privacy_level» = packetPrivacy (privacy (q .values));
-            «hash_algorithm» = hash q;
-            «encryption_algorithm» = encryptionAlgorithm q;
-          };
-      correlationId = correlation q;
+      «security_first» = first;
+      «security_flags» = securityFlags (senderOr (p .sender));
+      flags = p .acknowledge;
+      «message_class» = p .«message_class»;
+      «body_type» = p .«body_type»;
+      «application_tag» = p .«application_tag»;
+      «allocation_body_size» = p .«allocation_body_size»;
+      «privacy_level» = packetPrivacy (p .«privacy_level»);
+      «hash_algorithm» = p .«hash_algorithm»;
+      «encryption_algorithm» = p .«encryption_algorithm»;
+    }
+
+-- and its parts
+unfoldable pub givenBy : SendRequest → List ℕ → Given
+givenBy q correlationId =
+    record {
+      values = valuesOf (properties q) (first q);
+      correlationId = correlationOf (q .values) correlationId;
       senderId = q .senderId;
       encryptionKey = q .encryptionKey;
-      signature = signature q;
+      signature = signatureOf (q .values) (q .signature);
       senderCert = q .senderCert;
-      providerInfo = providerInfo q;
-      label = label q;
+      providerInfo = providerInfo (q .values) (q .signature) (q .providerName);
+      label = label (q .title);
       extension = q .extension;
-      body = body q;
+      body = bodyOf (q .values) (q .body);
     }
 
 -- 6: "Output: 13"
-unfoldable pub answerAfter : SendRequest → List ℕ → Checked → Output
-answerAfter q out Passed =
+unfoldable pub answerAfter : SendRequest → List ℕ → Defaulted → Output
+answerAfter q out (Defaulted·Properties p) =
     cond (ltb (length out) (sectionLength q)) (Output·Refused (refusal 13 0)) (Written (bytes (sectionLength q)))
-answerAfter q out (Refused r) = Output·Refused r
+answerAfter q out (Defaulted·Refused r) = Output·Refused r
 
-unfoldable pub bytesAfter : SendRequest → List ℕ → Checked → List ℕ
-bytesAfter q out Passed =
-    cond (ltb (length out) (sectionLength q)) out (sectionBytes (givenBy q) ++ drop (sectionLength q) out)
-bytesAfter q out (Refused r) = out
+unfoldable pub bytesAfter : SendRequest → List ℕ → List ℕ → Defaulted → List ℕ
+bytesAfter q correlationId out (Defaulted·Properties p) =
+    cond (ltb (length out) (sectionLength q)) out (sectionBytes (givenBy q correlationId) ++ drop (sectionLength q) out)
+bytesAfter q correlationId out (Defaulted·Refused r) = out
 
 -- what the sender answers, and what the lent output then holds
 unfoldable pub sendAnswer : SendRequest → List ℕ → Output
-sendAnswer q out = answerAfter q out (requestSteps q)
+sendAnswer q out = answerAfter q out (defaulted q)
 
-unfoldable pub sendBytes : SendRequest → List ℕ → List ℕ
-sendBytes q out = bytesAfter q out (requestSteps q)
+unfoldable pub sendBytes : SendRequest → List ℕ → List ℕ → List ℕ
+sendBytes q correlationId out = bytesAfter q correlationId out (defaulted q)

@@ -2,91 +2,76 @@
 use crate::units::write_label;
 use crate::units::write_provider_info;
 use crate::values::section_values;
-use octets::count::Bytes;
 use octets::part::within;
 use requests::defaulted::correlation_of;
 use requests::defaulted::defaulted;
 use requests::properties::Defaulted;
-use requests::properties::Properties;
 use requests::request::Request;
 use requests::section::security_first;
-use requests::values;
 use rules::section::CorrelationId;
 use rules::section::Output;
 use writing::section::write_section;
+use writing::values::SectionValues;
 ghost use mathlib.Core.Path.{_≡_};
-ghost use mathlib.Core.List.{List};
-ghost use Prim.Native.Nat.{ℕ, _≤_};
+ghost use Prim.Native.Nat.{_≤_};
 ghost use lib.ListN.{length};
-ghost use Rattle.octets.specs.Over.{over};
-ghost use Rattle.requests.specs.Defaults.{propertiesOf};
 ghost use Rattle.requests.specs.Request.{sendRequest};
 ghost use Rattle.requests.specs.Section.{providerInfo};
+ghost use Rattle.writing.specs.Given.{given};
+ghost use Rattle.writing.specs.Writing.{writeAnswer, writeBytes};
 ghost use Rattle.sending.specs.Send.{sendAnswer, sendBytes};
-ghost use Rattle.sending.specs.Theorems.{Legal};
 
-// Provider info is written only for a signature by another provider. Answers how many bytes it has.
-fn write_provider(
+// The section with the request's provider info. A name of up to 61 units, as most are, takes a short array, so that a
+// send does not clear 2,054 bytes.
+fn write_with_info(
     request: Request,
     signature: &[u8],
     provider_name: &[u16],
-    out: &mut [u8],
-) -> usize
-    requires { ⌜ ((i t d k c x b : List ℕ) → length (providerInfo (sendRequest request i t d k (now signature) c (now «provider_name») x b)) ≤ length (now out)) ⌝ }
-    ensures { λ r. ⌜ ((i t d k c x b : List ℕ) → r ≡ length (providerInfo (sendRequest request i t d k (now (signature .entry)) c (now («provider_name» .entry)) x b))) ⌝ }
-    ensures { λ _. ⌜ ((i t d k c x b : List ℕ) → now (out .exit) ≡ over (providerInfo (sendRequest request i t d k (now (signature .entry)) c (now («provider_name» .entry)) x b)) (now (out .entry))) ⌝ }
-{
-    if signature.len() == 0 {
-        return 0;
-    }
-    if request.default_provider {
-        return 0;
-    }
-    write_provider_info(values::provider_type(request), provider_name, out)
-}
-
-// A legal request: no step but that of the output is left.
-fn write_request(
-    request: Request,
-    properties: Properties,
+    values: SectionValues,
     correlation_id: CorrelationId,
-    title: &[u16],
     sender_id: &[u8],
     encryption_key: &[u8],
-    signature: &[u8],
+    kept: &[u8],
     sender_cert: &[u8],
-    provider_name: &[u16],
+    label: &[u8],
     extension: &[u8],
     body: &[u8],
     out: &mut [u8],
 ) -> Output
-    requires { ⌜ Legal (sendRequest request «correlation_id» (now title) (now «sender_id») (now «encryption_key») (now signature) (now «sender_cert») (now «provider_name») (now extension) (now body)) ⌝ }
-    requires { ⌜ properties ≡ propertiesOf (sendRequest request «correlation_id» (now title) (now «sender_id») (now «encryption_key») (now signature) (now «sender_cert») (now «provider_name») (now extension) (now body)) ⌝ }
-    ensures { λ r. ⌜ r ≡ sendAnswer (sendRequest request «correlation_id» (now (title .entry)) (now («sender_id» .entry)) (now («encryption_key» .entry)) (now (signature .entry)) (now («sender_cert» .entry)) (now («provider_name» .entry)) (now (extension .entry)) (now (body .entry))) (now (out .entry)) ⌝ }
-    ensures { λ _. ⌜ now (out .exit) ≡ sendBytes (sendRequest request «correlation_id» (now (title .entry)) (now («sender_id» .entry)) (now («encryption_key» .entry)) (now (signature .entry)) (now («sender_cert» .entry)) (now («provider_name» .entry)) (now (extension .entry)) (now (body .entry))) (now (out .entry)) ⌝ }
+    requires { ⌜ length (providerInfo request (now signature) (now «provider_name»)) ≤ 2054 ⌝ }
+    ensures { λ r. ⌜ r ≡ writeAnswer (given values «correlation_id» (now («sender_id» .entry)) (now («encryption_key» .entry)) (now (kept .entry)) (now («sender_cert» .entry)) (providerInfo request (now (signature .entry)) (now («provider_name» .entry))) (now (label .entry)) (now (extension .entry)) (now (body .entry))) (now (out .entry)) ⌝ }
+    ensures { λ _. ⌜ now (out .exit) ≡ writeBytes (given values «correlation_id» (now («sender_id» .entry)) (now («encryption_key» .entry)) (now (kept .entry)) (now («sender_cert» .entry)) (providerInfo request (now (signature .entry)) (now («provider_name» .entry))) (now (label .entry)) (now (extension .entry)) (now (body .entry))) (now (out .entry)) ⌝ }
 {
-    let correlation = request.correlation;
-    let first = security_first(request, sender_id, encryption_key, signature, sender_cert);
-    let kept = properties.title.0 as usize;
-    let mut label = [0u8; 500];
-    let label_size = write_label(&title[..kept], &mut label);
+    if provider_name.len() <= 61 {
+        let mut info = [0u8; 128];
+        let size = write_provider_info(request, signature, provider_name, &mut info).0;
+        return write_section(
+            values,
+            correlation_id,
+            sender_id,
+            encryption_key,
+            kept,
+            sender_cert,
+            &info[..size],
+            label,
+            extension,
+            body,
+            out,
+        );
+    }
     let mut info = [0u8; 2054];
-    let info_size = write_provider(request, signature, provider_name, &mut info);
+    let size = write_provider_info(request, signature, provider_name, &mut info).0;
     write_section(
-        section_values(properties, first),
-        correlation_of(correlation, correlation_id),
+        values,
+        correlation_id,
         sender_id,
         encryption_key,
-        within(
-            signature,
-            Bytes(properties.signature.start.0),
-            Bytes(properties.signature.length.0),
-        ),
+        kept,
         sender_cert,
-        &info[..info_size],
-        &label[..label_size],
+        &info[..size],
+        label,
         extension,
-        &body[..properties.message_size.0],
+        body,
         out,
     )
 }
@@ -106,10 +91,10 @@ pub fn send(
     body: &[u8],
     out: &mut [u8],
 ) -> Output
-    ensures { λ r. ⌜ r ≡ sendAnswer (sendRequest request «correlation_id» (now (title .entry)) (now («sender_id» .entry)) (now («encryption_key» .entry)) (now (signature .entry)) (now («sender_cert» .entry)) (now («provider_name» .entry)) (now (extension .entry)) (now (body .entry))) (now (out .entry)) ⌝ }
-    ensures { λ _. ⌜ now (out .exit) ≡ sendBytes (sendRequest request «correlation_id» (now (title .entry)) (now («sender_id» .entry)) (now («encryption_key» .entry)) (now (signature .entry)) (now («sender_cert» .entry)) (now («provider_name» .entry)) (now (extension .entry)) (now (body .entry))) (now (out .entry)) ⌝ }
+    ensures { λ r. ⌜ r ≡ sendAnswer (sendRequest request title «sender_id» «encryption_key» signature «sender_cert» «provider_name» extension body) (now (out .entry)) ⌝ }
+    ensures { λ _. ⌜ now (out .exit) ≡ sendBytes (sendRequest request title «sender_id» «encryption_key» signature «sender_cert» «provider_name» extension body) «correlation_id» (now (out .entry)) ⌝ }
 {
-    match defaulted(
+    let properties = match defaulted(
         request,
         title,
         sender_id,
@@ -120,20 +105,28 @@ pub fn send(
         extension,
         body,
     ) {
-        Defaulted::Refused(r) => Output::Refused(r),
-        Defaulted::Properties(properties) => write_request(
-            request,
-            properties,
-            correlation_id,
-            title,
-            sender_id,
-            encryption_key,
-            signature,
-            sender_cert,
-            provider_name,
-            extension,
-            body,
-            out,
-        ),
-    }
+        Defaulted::Refused(r) => return Output::Refused(r),
+        Defaulted::Properties(p) => p,
+    };
+    let first = security_first(request, sender_id, encryption_key, signature, sender_cert);
+    let kept = properties.signature;
+    let title_units = properties.title.0 as usize;
+    let size = properties.message_size.0;
+    let mut label = [0u8; 500];
+    let label_size = write_label(&title[..title_units], &mut label).0;
+    write_with_info(
+        request,
+        signature,
+        provider_name,
+        section_values(properties, first),
+        correlation_of(request, correlation_id),
+        sender_id,
+        encryption_key,
+        within(signature, kept.start, kept.length),
+        sender_cert,
+        &label[..label_size],
+        extension,
+        &body[..size],
+        out,
+    )
 }

@@ -1,17 +1,13 @@
-// The values of a section, out of the defaulted properties of a legal request.
-use octets::count::Bytes;
+// The values of a section, out of the defaulted properties of a request.
 use requests::properties::Properties;
 use requests::properties::Sender;
 use requests::properties::SenderValues;
 use writing::values::SectionValues;
 ghost use mathlib.Core.Path.{_≡_};
 ghost use mathlib.Core.Bool.{cond};
-ghost use Prim.Native.Nat.{_+_, _≤_};
-ghost use Rattle.requests.specs.Defaults.{propertiesOf};
-ghost use Rattle.requests.specs.Request.{SendRequest};
-ghost use Rattle.requests.specs.Section.{packetPrivacy, securityFirst};
-ghost use Rattle.sending.specs.Send.{givenBy};
-ghost use Rattle.sending.specs.Theorems.{Legal};
+ghost use Prim.Native.Nat.{_≤_, _<_};
+ghost use Rattle.requests.specs.Section.{packetPrivacy, securityFlags};
+ghost use Rattle.sending.specs.Send.{senderOr, valuesOf};
 
 // The security Flags that a sender sets: EB for encryption, DE for the default provider, and DP always.
 const EB: u16 = 32;
@@ -30,9 +26,9 @@ fn packet_privacy(level: u32) -> u32
     level
 }
 
-// The sender of a request, who is known.
-pub(crate) fn sender_values(sender: Sender) -> SenderValues
-    ensures { λ r. ⌜ ((v : SenderValues) → sender ≡ Sender.Known v → r ≡ v) ⌝ }
+// The sender of a request is known.
+fn sender_values(sender: Sender) -> SenderValues
+    ensures { λ r. ⌜ r ≡ senderOr sender ⌝ }
 {
     match sender {
         Sender::Known(values) => values,
@@ -57,16 +53,19 @@ fn mark(set: bool, bit: u16) -> u16
 
 fn security_flags(sender: SenderValues) -> u16
     requires { ⌜ sender .kind ≤ 2 ⌝ }
-    ensures { λ r. ⌜ r ≡ sender .kind + cond (sender .encryption) 32 0 + cond (sender .«default_provider») 64 0 + 128 ⌝ }
+    ensures { λ r. ⌜ r ≡ securityFlags sender ⌝ }
 {
     sender.kind as u16 + mark(sender.encryption, EB) + mark(sender.default_provider, DE) + DP
 }
 
 pub(crate) fn section_values(properties: Properties, first: bool) -> SectionValues
-    requires { ⌜ ((q : SendRequest) × (Legal q × (properties ≡ propertiesOf q))) ⌝ }
-    ensures { λ r. ⌜ ((q : SendRequest) → properties ≡ propertiesOf q → first ≡ securityFirst q → r ≡ givenBy q .values) ⌝ }
+    requires { ⌜ senderOr (properties .sender) .kind ≤ 2 ⌝ }
+    requires { ⌜ properties .acknowledge < 256 ⌝ }
+    requires { ⌜ properties .«message_class» < 65536 ⌝ }
+    ensures { λ r. ⌜ r ≡ valuesOf properties first ⌝ }
 {
     let sender = properties.sender;
+    let allocation_body_size = properties.allocation_body_size;
     SectionValues {
         security_first: first,
         security_flags: security_flags(sender_values(sender)),
@@ -74,7 +73,7 @@ pub(crate) fn section_values(properties: Properties, first: bool) -> SectionValu
         message_class: properties.message_class as u16,
         body_type: properties.body_type,
         application_tag: properties.application_tag,
-        allocation_body_size: Bytes(properties.allocation_body_size.0),
+        allocation_body_size,
         privacy_level: packet_privacy(properties.privacy_level),
         hash_algorithm: properties.hash_algorithm,
         encryption_algorithm: properties.encryption_algorithm,

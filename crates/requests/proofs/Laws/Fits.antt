@@ -7,9 +7,9 @@ use borrow.Author.Tests.{eq-eqb, le-ltb, ne-eqb, not-true}
 use lib.ListN.{length, getD}
 use lib.Dec.{eqb}
 use Rattle.rules.specs.Listed.{classes, listed}
-use Rattle.rules.specs.Properties.{labelContents, propertiesLength, propertiesSteps}
+use Rattle.rules.specs.Properties.{labelText, propertiesLength, propertiesSteps}
 use Rattle.rules.specs.Refusal.{limit}
-use Rattle.rules.specs.Security.{AS, AU, DE, DP, ST, allEmpty, identitySize, providerSize, securityContents, securityLength, securitySteps}
+use Rattle.rules.specs.Security.{AS, AU, DE, DP, ST, allEmpty, identityHead, identitySize, providerSize, providerText, securityLength, securitySteps}
 use Rattle.rules.specs.declared.properties.PropertiesFields.{PropertiesFields}
 use Rattle.rules.specs.declared.security.SecurityFields.{SecurityFields}
 use Rattle.requests.specs.Defaults.{senderValues, signatureOf, titleOf}
@@ -103,13 +103,14 @@ module _ (q : SendRequest) (a : RequestPassed q) where
   unfolding sectionLength propertiesAt
   securityLength-pass e = let at : propertiesAt q ≡ securityLength (securityFieldsOf q) = rw e in omega (arith, a .small)
 
-  -- S10 and S11
-  pub securityContents-pass : ((i : ℕ) → getD (q .providerName) i 0 < 65536)
-      → securityContents (securityFieldsOf q) (q .senderId) (providerInfo (q .values) (q .signature) (q .providerName)) ≡ 0
-  unfolding securityContents
-  securityContents-pass b =
-      let identity = identity-fits q a in
-      rw (head-alike q (identity .kind), identity .head, provided b .text)
+  -- S10
+  pub identityHead-pass : identityHead (securityFieldsOf q) (q .senderId) ≡ true
+  identityHead-pass = let identity = identity-fits q a in rw (head-alike q (identity .kind)) (identity .head)
+
+  -- S11
+  pub providerText-pass : ((i : ℕ) → getD (q .providerName) i 0 < 65536)
+      → providerText (providerInfo (q .values) (q .signature) (q .providerName)) ≡ true
+  providerText-pass b = provided b .text
 
   -- P2 to P4
   pub propertiesSteps-pass : ((i : ℕ) → getD (q .title) i 0 < 65536)
@@ -132,6 +133,5 @@ module _ (q : SendRequest) (a : RequestPassed q) where
   sectionLength-pass = a .small
 
   -- P7
-  pub labelContents-pass : ((i : ℕ) → getD (q .title) i 0 < 65536) → labelContents (label (q .title)) ≡ 0
-  unfolding labelContents
-  labelContents-pass b = rw (label-fits (titleOf (q .title)) (title-cut (q .title) b) .text)
+  pub labelText-pass : ((i : ℕ) → getD (q .title) i 0 < 65536) → labelText (label (q .title)) ≡ true
+  labelText-pass b = label-fits (titleOf (q .title)) (title-cut (q .title) b) .text

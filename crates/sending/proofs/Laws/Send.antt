@@ -1,8 +1,10 @@
 -- What the sender gives the section writer, out of a request and its defaulted properties, and what it answers.
 use Prim.Native.Nat.{ℕ, _-_, _≤_, _<_}
 use mathlib.Core.Path.{_≡_, refl, sym, ap, subst, _∙_}
+use mathlib.Core.Bool.{Bool}
 use mathlib.Core.List.{List}
 use native.Mathlib.Omega.{arith}
+use borrow.Author.Tests.{eq-eqb}
 use lib.ListN.{length, getD, take, drop, length-drop}
 use lib.Seq.{length-take-le, take-at, take-length}
 use Rattle.octets.specs.Over.{over}
@@ -10,30 +12,27 @@ use Rattle.octets.specs.Part.{within}
 use Rattle.octets.proofs.Laws.Part.{rest-drop, within-in}
 use Rattle.rules.specs.declared.refusal.Checked.{Checked}
 use Rattle.rules.specs.declared.refusal.Checked.the-variants.{Passed, Refused}
-use Rattle.rules.specs.declared.refusal.Refusal.{Refusal}
-use Rattle.rules.specs.declared.section.Output.the-variants.{Refused as Output·Refused}
 use Rattle.writing.specs.Given.{given}
-use Rattle.writing.specs.Writing.{answerAt, bytesAt, writeAnswer, writeBytes}
+use Rattle.writing.specs.Writing.{writeAnswer, writeBytes, writeRefusal}
 use Rattle.writing.specs.declared.values.SectionValues.{SectionValues}
-use Rattle.octets.proofs.Laws.Over.{Written}
-use Rattle.requests.specs.Defaults.{body, bodyOr, correlation, count, propertiesOf, signature, title}
+use Rattle.requests.specs.Defaults.{bodyOf, bodyOr, class, correlationOf, count, properties, propertiesOf, senderOf, signatureOf, titleOf}
 use Rattle.requests.specs.Request.{SendRequest}
-use Rattle.requests.specs.Section.{label, providerInfo}
+use Rattle.requests.specs.Section.{first, label, labelWith, providerInfo}
 use Rattle.requests.specs.Steps.{answerOf, defaulted, requestSteps}
-use Rattle.requests.specs.declared.properties.Defaulted.the-variants.{Properties as Defaulted·Properties, Refused as Defaulted·Refused}
+use Rattle.requests.specs.declared.properties.Defaulted.the-variants.{Properties as Defaulted·Properties}
 use Rattle.requests.specs.declared.properties.Properties.{Properties}
 use Rattle.requests.specs.declared.request.Body.{Body}
 use Rattle.requests.specs.declared.request.Body.the-variants.{Absent, Given}
+use Rattle.requests.proofs.Laws.Legal.{RequestPassed, acknowledge-small, class-small, identity-fits, request-passed}
+use Rattle.requests.proofs.Laws.Text.{label-most}
 use Rattle.requests.proofs.Laws.Title.{title-first, title-small}
-use Rattle.sending.specs.Send.{answerAfter, bytesAfter, givenBy, sendAnswer, sendBytes}
-use Rattle.sending.specs.Theorems.{Legal}
+use Rattle.sending.specs.Send.{answerAfter, bytesAfter, givenBy, sendAnswer, sendBytes, senderOr, valuesOf}
 use Rattle.sending.proofs.Laws.Given.{request-placed}
 
--- the first bytes of an output over which a part was written
-pub take-written : {part out : List ℕ} {end : ℕ} {now : List ℕ} (n : ℕ) → Written part out end now → n ≡ length part
-    → take n now ≡ part
+-- the first bytes of an array over which a part was written
+pub held : {n : ℕ} {part now : List ℕ} (array : List ℕ) → (n ≡ length part) × (now ≡ over part array) → take n now ≡ part
 unfolding over
-take-written {part} {out} n w e = ap (take n) (w .bytes) ∙ take-at part (drop (length part) out) n (sym e)
+held {n} {part} array w = ap (take n) (w .1) ∙ take-at part (drop (length part) array) n (sym (w .0))
 
 -- the last bytes of a signature
 last-within : (s : List ℕ) (at : ℕ) → at ≤ length s → within s at (length (drop at s)) ≡ drop at s
@@ -52,62 +51,71 @@ unfolding bodyOr
 body-within s Absent = omega arith
 body-within s (Given allocation) = omega arith
 
--- what the defaulted properties keep of title, signature and body
-pub record Keeps (q : SendRequest) (p : Properties) : Type 0 where
-  pub title : take (p .title .0) (q .title) ≡ title q
-  pub units : length (take (p .title .0) (q .title)) ≡ p .title .0
+-- properties p that a request q gets: q is legal, p keeps of its title, signature and body what the definitions cut, and its values
+-- fit their fields
+pub record Gets (q : SendRequest) (p : Properties) : Type 0 where
+  pub answered : defaulted q ≡ Defaulted·Properties p
+  pub legal : RequestPassed q
+  pub made : p ≡ properties q
+  pub title : take (p .title .0) (q .title) ≡ titleOf (q .title)
+  pub units : p .title .0 ≡ length (take (p .title .0) (q .title))
   pub small : p .title .0 ≤ 249
-  pub signature : within (q .signature) (p .signature .start .0) (p .signature .length .0) ≡ signature q
-  pub body : take (p .«message_size» .0) (q .body) ≡ body q
-  pub size : length (take (p .«message_size» .0) (q .body)) ≡ p .«message_size» .0
+  pub label : length (labelWith (take (p .title .0) (q .title))) ≤ 500
+  pub signature : within (q .signature) (p .signature .start .0) (p .signature .length .0) ≡ signatureOf (q .values) (q .signature)
+  pub body : take (p .«message_size» .0) (q .body) ≡ bodyOf (q .values) (q .body)
+  pub size : p .«message_size» .0 ≡ length (take (p .«message_size» .0) (q .body))
+  pub kind : senderOr (p .sender) .kind ≤ 2
+  pub acknowledge : p .acknowledge < 256
+  pub class : p .«message_class» < 65536
 
-made-keeps : (q : SendRequest) → Keeps q (propertiesOf q)
-unfolding propertiesOf signature
-made-keeps q =
+made-gets : (q : SendRequest) → defaulted q ≡ Defaulted·Properties (properties q) → RequestPassed q → Gets q (properties q)
+unfolding propertiesOf senderOf senderOr signatureOf
+made-gets q e a =
     let given = q .values .body in
     record {
+      answered = e;
+      legal = a;
+      made = refl;
       title = title-first (q .title);
-      units = ap length (title-first (q .title));
+      units = sym (ap length (title-first (q .title)));
       small = title-small (q .title);
-      signature = last-within (q .signature) (length (q .signature) - count q) (omega arith);
+      label = rw (title-first (q .title)) (omega (arith, label-most (titleOf (q .title)), title-small (q .title)));
+      signature = last-within (q .signature) (length (q .signature) - count (q .values) (length (q .signature))) (omega arith);
       body = body-first (q .body) given;
-      size = length-take-le (length (body q)) (q .body) (body-within (q .body) given);
+      size = sym (length-take-le (length (bodyOf (q .values) (q .body))) (q .body) (body-within (q .body) given));
+      kind = identity-fits q a .kind;
+      acknowledge = omega (arith, acknowledge-small q a);
+      class = class-small (class (q .values)) (a .class);
     }
 
-pub properties-keep : (q : SendRequest) (p : Properties) → p ≡ propertiesOf q → Keeps q p
-properties-keep q p e = subst (Keeps q) (sym e) (made-keeps q)
-
--- what is given to the section writer
-pub given-made : (q : SendRequest) (values : SectionValues) (id s info l b : List ℕ) → values ≡ givenBy q .values
-    → id ≡ correlation q → s ≡ signature q → info ≡ providerInfo q → l ≡ label q → b ≡ body q
-    → given values id (q .senderId) (q .encryptionKey) s (q .senderCert) info l (q .extension) b ≡ givenBy q
-unfolding givenBy
-given-made q values id s info l b ev ei es ep el eb =
-    λ i. given (ev i) (ei i) (q .senderId) (q .encryptionKey) (es i) (q .senderCert) (ep i) (el i) (q .extension) (eb i)
-
--- the section writer can only refuse for the output
-pub legal-sent : (q : SendRequest) (out : List ℕ) → ((i : ℕ) → getD (q .title) i 0 < 65536)
-    → ((i : ℕ) → getD (q .providerName) i 0 < 65536) → Legal q
-    → (writeAnswer (givenBy q) out ≡ sendAnswer q out) × (writeBytes (givenBy q) out ≡ sendBytes q out)
-unfolding writeAnswer answerAt writeBytes bytesAt sendAnswer answerAfter sendBytes bytesAfter
-legal-sent q out units name legal =
-    let placed = request-placed q units name legal in
-    (rw (placed, legal), rw (placed, legal))
-
--- properties are made of a legal request only
-pub legal-defaulted : (q : SendRequest) (p : Properties) → defaulted q ≡ Defaulted·Properties p → Legal q × (p ≡ propertiesOf q)
+pub gets : (q : SendRequest) (p : Properties) → defaulted q ≡ Defaulted·Properties p → Gets q p
 unfolding defaulted answerOf
-legal-defaulted q p e = go (requestSteps q) refl e
+gets q p e = go (requestSteps q) refl e
   where
-    go : (c : Checked) → requestSteps q ≡ c → answerOf q c ≡ Defaulted·Properties p → Legal q × (p ≡ propertiesOf q)
-    go Passed f e = (f, cc)
+    go : (c : Checked) → requestSteps q ≡ c → answerOf (properties q) c ≡ Defaulted·Properties p → Gets q p
+    go Passed f e = let same : properties q ≡ p = cc in subst (Gets q) same (made-gets q (rw f) (request-passed q f))
     go (Refused r) f e = let z : _≡_ {A = ℕ} 0 1 = cc in absurd (omega arith)
 
-pub refused-sent : (q : SendRequest) (out : List ℕ) (r : Refusal) → defaulted q ≡ Defaulted·Refused r
-    → (Output·Refused r ≡ sendAnswer q out) × (out ≡ sendBytes q out)
-unfolding defaulted answerOf sendAnswer answerAfter sendBytes bytesAfter
-refused-sent q out r e = go (requestSteps q) e
-  where
-    go : (c : Checked) → answerOf q c ≡ Defaulted·Refused r → (Output·Refused r ≡ answerAfter q out c) × (out ≡ bytesAfter q out c)
-    go Passed e = let z : _≡_ {A = ℕ} 0 1 = cc in absurd (omega arith)
-    go (Refused x) e = (cc, refl)
+-- what is given to the section writer
+pub given-made : (q : SendRequest) (p : Properties) (b : Bool) (id : List ℕ) {values : SectionValues} {made s l body : List ℕ}
+    → p ≡ properties q → b ≡ first q → values ≡ valuesOf p b → made ≡ correlationOf (q .values) id
+    → s ≡ signatureOf (q .values) (q .signature) → l ≡ label (q .title) → body ≡ bodyOf (q .values) (q .body)
+    → given values made (q .senderId) (q .encryptionKey) s (q .senderCert)
+    (providerInfo (q .values) (q .signature) (q .providerName)) l (q .extension) body ≡ givenBy q id
+unfolding givenBy
+given-made q p b id ep eb ev ei es el ebody =
+    λ i.
+    given ((ev ∙ λ j. valuesOf (ep j) (eb j)) i) (ei i) (q .senderId) (q .encryptionKey) (es i) (q .senderCert)
+    (providerInfo (q .values) (q .signature) (q .providerName)) (el i) (q .extension) (ebody i)
+
+-- the section writer can only refuse for the output
+abbrev pub Sent : SendRequest → List ℕ → List ℕ → Type 0
+Sent q id out = (writeAnswer (givenBy q id) out ≡ sendAnswer q out) × (writeBytes (givenBy q id) out ≡ sendBytes q id out)
+
+pub legal-sent : (q : SendRequest) (p : Properties) (id out : List ℕ) → ((i : ℕ) → getD (q .title) i 0 < 65536)
+    → ((i : ℕ) → getD (q .providerName) i 0 < 65536) → Gets q p → Sent q id out
+unfolding writeAnswer writeBytes sendAnswer answerAfter sendBytes bytesAfter
+legal-sent q p id out units name g =
+    let placed = request-placed q id units name (g .legal) in
+    let none = eq-eqb (writeRefusal (givenBy q id) .number) 0 (placed .passed) in
+    (rw (none, placed .length, g .answered), rw (none, placed .length, g .answered))

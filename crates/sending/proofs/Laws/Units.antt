@@ -42,9 +42,6 @@ over-units i us out e h b room =
     over-unit (take i us) out (2 * i) (getD us i 0) e (omega (arith, length-take-le i us (omega arith))) b room
     ∙ rw (add-one, take-suc us i 0)
 
-pub length-text : (us : List ℕ) → length (unitBytes (us ++ (0 ∷ []))) ≡ 2 * length us + 2
-length-text us = omega (arith, length-nulled us)
-
 -- no label for no unit
 pub label-none : (us : List ℕ) → length us ≡ 0 → labelWith us ≡ []
 unfolding labelWith

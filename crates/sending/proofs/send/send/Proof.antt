@@ -1,57 +1,97 @@
--- `sending::send::send` meets its contract: refused as its request is, else its properties are those of a legal request. Assumes nothing.
+-- Refused as its request is; else what is given to the section writer is what the request gives it, and that can only refuse for the output.
+use Prim.Native.Nat.{ℕ, _≤_, _<_}
 use denote.Ref.{now}
-use mathlib.Core.Path.{sym, _∙_}
-use Rattle.requests.specs.Request.{SendRequest, sendRequest}
-use Rattle.sending.proofs.Laws.Send.{legal-defaulted, refused-sent}
+use mathlib.Core.List.{List}
+use mathlib.Core.Path.{refl, sym, ap, _∙_}
+use native.Mathlib.Omega.{arith}
 use borrow.Author.Needs.{needs}
+use lib.ListN.{getD}
+use lib.Seq.{length-take-le}
+use Rattle.octets.proofs.Laws.Steps.{the}
+use Rattle.requests.specs.Request.{SendRequest}
+use Rattle.requests.specs.Section.{labelWith}
+use Rattle.requests.proofs.Laws.Provider.{info-small}
+use Rattle.writing.specs.Given.{Given}
+use Rattle.writing.specs.Writing.{writeAnswer, writeBytes}
+use Rattle.sending.specs.Send.{answerAfter, bytesAfter, sendAnswer, sendBytes}
+use Rattle.sending.proofs.Laws.Send.{Gets, Sent, gets, given-made, held, legal-sent}
 use Rattle.sending.proofs.send.send.Statement.{statement}
 use Rattle.sending.proofs.send.send.Tie as tie
 
 -- the request
-abbrev requested : tie.Start → SendRequest
-requested c =
+abbrev asked : tie.Start → SendRequest
+asked c =
     let a = c .args in
-    sendRequest (a .request) (a .correlation-id) (now (a .title)) (now (a .sender-id)) (now (a .encryption-key)) (now (a .signature)) (now (a .sender-cert)) (now (a .provider-name)) (now (a .extension)) (now (a .body))
+    record {
+      values = a .request;
+      title = now (a .title);
+      senderId = now (a .sender-id);
+      encryptionKey = now (a .encryption-key);
+      signature = now (a .signature);
+      senderCert = now (a .sender-cert);
+      providerName = now (a .provider-name);
+      extension = now (a .extension);
+      body = now (a .body);
+    }
 
-defaulted-requires : tie.Need-defaulted-requires
-defaulted-requires c κs = search needs
+abbrev start : tie.After-p → tie.Start
+start c = c .before .before .before .before .before .before .before .before .before .before .before .before
 
-enum-known-r : tie.Need-enum-known-r
-enum-known-r c = search needs
+-- the properties that it gets
+got : (c : tie.After-p) → Gets (asked (start c)) (c .p .given .0 .0)
+got c = gets _ _ (sym (the tie.After-defaulted (search) .defaulted .ensures) ∙ c .p .given .1)
 
-enum-known-properties : tie.Need-enum-known-properties
-enum-known-properties c = search needs
+-- the label's array has room for it
+label-small : (c : tie.After-write-label) → c .write-label .result .0 ≤ 500
+label-small c = omega (arith, c .write-label .ensures .0, got (search) .label)
 
-write-request-requires : tie.Need-write-request-requires
-write-request-requires c κs =
-    let told = c .before .before in
-    let asked = told .before .before in
-    let start = asked .before .before .before .before .before .before .before .before .before .before in
-    legal-defaulted (requested start) (told .properties .given .0 .0)
-    (sym (asked .defaulted .ensures (start .args .correlation-id)) ∙ told .properties .given .1)
+-- its units fit 16 bits
+title-units : (c : tie.After-shared-slice-known) (i : ℕ) → getD (now (c .before .args .title)) i 0 < 65536
+title-units c i = omega (arith, c .shared-slice-known .given i)
 
-returns : tie.Need-returns
-returns c =
-    let told = c .before in
-    let asked = told .before .before in
-    let start = asked .before .before .before .before .before .before .before .before .before .before in
-    refused-sent (requested start) (now (start .args .out)) (told .r .given .0 .0)
-    (sym (asked .defaulted .ensures (start .args .correlation-id)) ∙ told .r .given .1)
+name-units : (c : tie.After-shared-slice-known6) (i : ℕ) → getD (now (c .before .before .before .before .before .before .args .provider-name)) i 0 < 65536
+name-units c i = omega (arith, c .shared-slice-known6 .given i)
 
-same-length : tie.Need-same-length
-same-length c = search needs
+sent : (c : tie.After-p) → Sent (asked (start c)) (start c .args .correlation-id) (now (start c .args .out))
+sent c = legal-sent _ _ _ _ (title-units (search)) (name-units (search)) (got c)
 
 returns-2 : tie.Need-returns-2
-returns-2 c = search needs
+returns-2 c =
+    let written = c .before .before .write-with-info .ensures in
+    let cut = the tie.After-within (search) in
+    let titled = the tie.After-write-label (search) in
+    let first = the tie.After-security-first (search) in
+    let known = first .before .before in
+    let g = got known in
+    let made =
+    given-made (asked (start known)) _ _ (start known .args .correlation-id) (g .made) (first .security-first .ensures)
+    (cut .before .before .section-values .ensures) (cut .before .correlation-of .ensures) (cut .within .ensures ∙ g .signature)
+    (held _ (titled .write-label .ensures) ∙ ap labelWith (g .title)) (g .body) in
+    let out = now (start known .args .out) in (
+      written .0 ∙ ap (λ (x : Given). writeAnswer x out) made ∙ sent known .0,
+      written .1 ∙ ap (λ (x : Given). writeBytes x out) made ∙ sent known .1,
+    )
 
 pub send-spec : {M : Type 1} → statement M
+unfolding answerAfter bytesAfter sendAnswer sendBytes
 send-spec =
     tie.close
     (tie.spec
-    defaulted-requires
-    enum-known-r
-    enum-known-properties
-    write-request-requires
-    returns
-    same-length
+    (λ c κs. search needs)
+    (λ c. search needs)
+    (λ c. rw (← the tie.After-defaulted (search) .defaulted .ensures, c .before .r .given .1) (refl, refl))
+    (λ c. search needs)
+    (λ c κs. search needs)
+    (λ c. omega (arith, got (search) .small))
+    (λ c. got (search) .units)
+    (λ c. search needs)
+    (λ c κs. let g = got (search) in omega (arith, g .units, g .small))
+    (λ c κs. let g = got (search) in (g .kind, (g .acknowledge, g .class)))
+    (λ c κs. search needs)
+    (λ c κs. search needs)
+    (λ c. omega (arith, label-small (search)))
+    (λ c. let w = the tie.After-write-label (search) .write-label in sym (length-take-le (w .result .0) (w .last .1 .0) (omega (arith, label-small (search)))))
+    (λ c. got (search) .size)
+    (λ c κs. info-small _ _ _ (got (search) .legal .provider))
+    (λ c. search needs)
     returns-2)

@@ -58,21 +58,23 @@ pub extern "C" fn ugb_read_image(s: &[u8]) -> UgbImageRead
     ensures { λ r. ⌜ r ≡ imageAnswer (readImage (now (s .entry))) ⌝ }
 {
     match read_image(s) {
-        ImageRead::Refused(refusal) => UgbImageRead {
-            refusal,
-            format: QueueFormat::new(0, 0),
-            fixed: no_part(),
-            text: no_part(),
-        },
+        ImageRead::Refused(refusal) => {
+            return UgbImageRead {
+                refusal,
+                format: QueueFormat::new(0, 0),
+                fixed: no_part(),
+                text: no_part(),
+            };
+        }
         ImageRead::Accepted(image) => {
             let format = image.format;
             let value = image.value;
-            UgbImageRead {
+            return UgbImageRead {
                 refusal: no_refusal(),
                 format,
                 fixed: fixed_part(value),
                 text: text_part(value),
-            }
+            };
         }
     }
 }

@@ -1,4 +1,5 @@
-// Reading a section, and whether two have the same summary.
+// Reading a section, and whether two have the same summary. (Each arm returns by itself, so that its answer is made in
+// place.)
 use crate::zero::no_refusal;
 use crate::zero::no_section;
 use crate::zero::no_summary;
@@ -32,14 +33,18 @@ pub extern "C" fn ugb_summarize(s: &[u8], security_first: bool) -> UgbSummarized
     ensures { λ r. ⌜ r ≡ summaryAnswer (summarize «security_first» (now (s .entry))) ⌝ }
 {
     match summarize(s, security_first) {
-        Summarized::Refused(refusal) => UgbSummarized {
-            refusal,
-            summary: no_summary(),
-        },
-        Summarized::Accepted(summary) => UgbSummarized {
-            refusal: no_refusal(),
-            summary,
-        },
+        Summarized::Refused(refusal) => {
+            return UgbSummarized {
+                refusal,
+                summary: no_summary(),
+            };
+        }
+        Summarized::Accepted(summary) => {
+            return UgbSummarized {
+                refusal: no_refusal(),
+                summary,
+            };
+        }
     }
 }
 
@@ -48,14 +53,18 @@ pub extern "C" fn ugb_read(s: &[u8], security_first: bool) -> UgbReading
     ensures { λ r. ⌜ r ≡ readingAnswer (read «security_first» (now (s .entry))) ⌝ }
 {
     match read(s, security_first) {
-        Reading::Refused(refusal) => UgbReading {
-            refusal,
-            section: no_section(),
-        },
-        Reading::Accepted(section) => UgbReading {
-            refusal: no_refusal(),
-            section,
-        },
+        Reading::Refused(refusal) => {
+            return UgbReading {
+                refusal,
+                section: no_section(),
+            };
+        }
+        Reading::Accepted(section) => {
+            return UgbReading {
+                refusal: no_refusal(),
+                section,
+            };
+        }
     }
 }
 

@@ -2,7 +2,7 @@
 // its number is 0.
 use octets::count::Bytes;
 use octets::count::Units;
-use reading::section::no_security;
+use reading::security::no_security;
 use rules::properties::PropertiesFields;
 use rules::properties::PropertiesParts;
 use rules::refusal::Refusal;

@@ -6,8 +6,9 @@ use Rattle.octets.specs.Padding.{padded, padding}
 use Rattle.octets.specs.Part.{within}
 use Rattle.octets.specs.Text.{isText, lastOnly, units}
 use Rattle.rules.specs.Listed.{classes, listed}
-use Rattle.rules.specs.Properties.{bodyAt, extensionAt, labelContents, labelText, propertiesFields, propertiesLength, propertiesParts, propertiesSteps}
-use Rattle.rules.specs.Reading.{afterSecurity, propertiesAfterContents, propertiesAfterSteps, readProperties, securityAt, summarize}
+use Rattle.rules.specs.Properties.{bodyAt, extensionAt, labelContents, labelText, propertiesFields, propertiesLength, propertiesParts, propertiesSteps, readProperties}
+use Rattle.rules.specs.Reading.{fieldsAt, headerAt, judge, propertiesNumber, securityHeader, securityNumber, startAt, summarize, summaryAt}
+use Rattle.rules.specs.Refusal.{firstOf}
 use Rattle.rules.specs.Summary.{noSecurity, summaryOf}
 use Rattle.records.specs.Decimal.{decimal, spelled}
 use Rattle.records.specs.Line.{endLine, headerLine, line, lineBytes, sizes, stopLine}
@@ -19,8 +20,8 @@ use Rattle.examples.specs.Listings.{firstPrinted, firstRecord, headerPri
 
 pub listings-hold : map (λ (e : Example). e .told) listings ≡ map (λ (e : Example). e .expected) listings
 unfolding le toLe padded padding within isText lastOnly units classes listed bodyAt extensionAt labelContents
-    labelText propertiesFields propertiesLength propertiesParts propertiesSteps afterSecurity propertiesAfterContents
-    propertiesAfterSteps readProperties securityAt summarize noSecurity summaryOf decimal spelled endLine headerLine line
-    lineBytes sizes stopLine linesFrom linesOf listing answerOf nextRecord sectionSize properties recordOf firstPrinted
-    firstRecord headerPrinted listings restPrinted stopPrinted
+    labelText propertiesFields propertiesLength propertiesParts propertiesSteps readProperties fieldsAt headerAt judge
+    propertiesNumber securityHeader securityNumber startAt summarize summaryAt firstOf noSecurity summaryOf decimal
+    spelled endLine headerLine line lineBytes sizes stopLine linesFrom linesOf listing answerOf nextRecord sectionSize
+    properties recordOf firstPrinted firstRecord headerPrinted listings restPrinted stopPrinted
 listings-hold = refl

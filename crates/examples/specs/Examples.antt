@@ -80,7 +80,7 @@ pair type byte expected = record { told = imageTold (readImage (image type byte)
 abbrev pub title : ℕ → ℕ → Example
 title units labelLength =
     record {
-      told = labelTold (summarize false (sendBytes (titled (replicate units 1)) (replicate 600 0)));
+      told = labelTold (summarize false (sendBytes (titled (replicate units 1)) (replicate 20 0) (replicate 600 0)));
       expected = 1 ∷ labelLength ∷ [];
     }
 

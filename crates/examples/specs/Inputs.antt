@@ -6,7 +6,7 @@ use lib.ListN.{length, replicate}
 use Rattle.octets.specs.Number.{toLe}
 use Rattle.rules.specs.Listed.{listed}
 use Rattle.queues.specs.Steps.{fixedSize}
-use Rattle.requests.specs.Request.{SendRequest, sendRequest}
+use Rattle.requests.specs.Request.{SendRequest}
 use Rattle.requests.specs.declared.request.Body.the-variants.{Absent as Body·Absent}
 use Rattle.requests.specs.declared.request.Correlation.the-variants.{Absent as Correlation·Absent}
 use Rattle.requests.specs.declared.request.Number.the-variants.{Absent}
@@ -69,7 +69,18 @@ nothingGiven =
     }
 
 unfoldable pub titled : List ℕ → SendRequest
-titled title = sendRequest nothingGiven [] title [] [] [] [] [] [] []
+titled title =
+    record {
+      values = nothingGiven;
+      title = title;
+      senderId = [];
+      encryptionKey = [];
+      signature = [];
+      senderCert = [];
+      providerName = [];
+      extension = [];
+      body = [];
+    }
 
 -- a record of the listing's file, without security
 unfoldable pub recordOf : List ℕ → List ℕ

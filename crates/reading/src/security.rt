@@ -41,7 +41,7 @@ fn no_fields() -> SecurityFields
 }
 
 // Where no SecurityHeader stands first: every number is 0.
-pub(crate) fn no_security() -> SecurityHeader
+pub fn no_security() -> SecurityHeader
     ensures { λ r. ⌜ r ≡ noSecurity ⌝ }
 {
     let none = part(Bytes(0), Bytes(0));

@@ -163,7 +163,7 @@ module _ (first : Bool) (s t : List ℕ) (m n : Summary) (bs : Octets s) (bt : O
 pub demand3 : Demand3
 demand3 =
     record {
-      copied = copy-refused;
+      refused = copy-refused;
       two = λ first s t m n bs bt es et.
           record {
             summaries = (

@@ -1,4 +1,5 @@
--- Demand 3, sentence by sentence, of what the functions promise: `summarize` of the reader, `supportAnswer` and `supportBytes` of the copier. `first` says whether a SecurityHeader stands first.
+-- Demand 3, sentence by sentence, of what the functions promise: `summarize`, `supportAnswer` and `supportBytes`.
+-- `first` says whether a SecurityHeader stands first.
 use Prim.Native.Nat.{ℕ, _<_, _≤_}
 use mathlib.Core.Path.{_≡_}
 use mathlib.Core.Logic.{_↔_}
@@ -44,7 +45,7 @@ pub record TwoAccepted (first : Bool) (s t : List ℕ) (m n : Summary) : Type 0 
       → (take (sectionLength m) (supportBytes first s out) ≡ take (sectionLength n) (supportBytes first t other)) ↔ Agrees m s t
 
 pub record Demand3 : Type 0 where
-  pub copied : (first : Bool) (s out : List ℕ) → CopyRefused first s out
+  pub refused : (first : Bool) (s out : List ℕ) → CopyRefused first s out
   pub two : (first : Bool) (s t : List ℕ) (m n : Summary) → Octets s → Octets t
       → summarize first s ≡ Accepted m → summarize first t ≡ Accepted n → TwoAccepted first s t m n
   -- "Each copy, read the way its original was and whatever bytes follow it, gives its original's summary.": those behind it in the output are such bytes

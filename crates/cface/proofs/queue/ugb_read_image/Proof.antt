@@ -20,6 +20,10 @@ no-part-requires c κs = search needs
 no-part-requires-2 : tie.Need-no-part-requires-2
 no-part-requires-2 c κs = search needs
 
+returns : tie.Need-returns
+unfolding imageAnswer
+returns c = simp (← c .before .before .before .before .before .before .read-image .ensures, c .before .before .before .before .refusal .given .1, c .before .before .new .ensures, c .before .no-part .ensures, c .no-part2 .ensures)
+
 enum-known-image : tie.Need-enum-known-image
 enum-known-image c = search needs
 
@@ -31,10 +35,6 @@ fixed-part-requires c κs = search needs
 
 text-part-requires : tie.Need-text-part-requires
 text-part-requires c κs = search needs
-
-returns : tie.Need-returns
-unfolding imageAnswer
-returns c = simp (← c .before .before .before .before .before .before .read-image .ensures, c .before .before .before .before .refusal .given .1, c .before .before .new .ensures, c .before .no-part .ensures, c .no-part2 .ensures)
 
 returns-2 : tie.Need-returns-2
 unfolding imageAnswer
@@ -49,9 +49,9 @@ ugb-read-image-spec =
     new-requires
     no-part-requires
     no-part-requires-2
+    returns
     enum-known-image
     no-refusal-requires
     fixed-part-requires
     text-part-requires
-    returns
     returns-2)

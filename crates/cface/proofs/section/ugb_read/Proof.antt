@@ -14,15 +14,15 @@ enum-known-refusal c = search needs
 no-section-requires : tie.Need-no-section-requires
 no-section-requires c κs = search needs
 
+returns : tie.Need-returns
+unfolding readingAnswer
+returns c = simp (← c .before .before .before .before .read .ensures, c .before .before .refusal .given .1, c .no-section .ensures)
+
 enum-known-section : tie.Need-enum-known-section
 enum-known-section c = search needs
 
 no-refusal-requires : tie.Need-no-refusal-requires
 no-refusal-requires c κs = search needs
-
-returns : tie.Need-returns
-unfolding readingAnswer
-returns c = simp (← c .before .before .before .before .read .ensures, c .before .before .refusal .given .1, c .no-section .ensures)
 
 returns-2 : tie.Need-returns-2
 unfolding readingAnswer
@@ -35,7 +35,7 @@ ugb-read-spec =
     read-requires
     enum-known-refusal
     no-section-requires
+    returns
     enum-known-section
     no-refusal-requires
-    returns
     returns-2)

@@ -14,15 +14,15 @@ enum-known-refusal c = search needs
 no-summary-requires : tie.Need-no-summary-requires
 no-summary-requires c κs = search needs
 
+returns : tie.Need-returns
+unfolding summaryAnswer
+returns c = simp (← c .before .before .before .before .summarize .ensures, c .before .before .refusal .given .1, c .no-summary .ensures)
+
 enum-known-summary : tie.Need-enum-known-summary
 enum-known-summary c = search needs
 
 no-refusal-requires : tie.Need-no-refusal-requires
 no-refusal-requires c κs = search needs
-
-returns : tie.Need-returns
-unfolding summaryAnswer
-returns c = simp (← c .before .before .before .before .summarize .ensures, c .before .before .refusal .given .1, c .no-summary .ensures)
 
 returns-2 : tie.Need-returns-2
 unfolding summaryAnswer
@@ -35,7 +35,7 @@ ugb-summarize-spec =
     summarize-requires
     enum-known-refusal
     no-summary-requires
+    returns
     enum-known-summary
     no-refusal-requires
-    returns
     returns-2)

@@ -95,7 +95,7 @@ fn write_properties_head(
     write_u8(out, Bytes(0), f.flags);
     write_u8(out, Bytes(1), f.label_length.0 as u8);
     write_u16(out, Bytes(2), f.message_class);
-    copy(&correlation_id, &mut out[4..]);
+    copy(&correlation_id, &mut out[4..24]);
     write_u32(out, Bytes(24), f.body_type);
     write_u32(out, Bytes(28), application_tag);
 }

@@ -7,7 +7,7 @@ use native.Mathlib.Omega.{arith}
 use lib.ListN.{length}
 use Rattle.octets.specs.Number.{toLe}
 use Rattle.octets.proofs.Laws.Number.{length-toLe}
-use Rattle.octets.proofs.Laws.Over.{written-copied, written-next, written-none}
+use Rattle.octets.proofs.Laws.Over.{copied-lent, written-length, written-next, written-none}
 use Rattle.octets.proofs.Laws.Steps.{the}
 use Rattle.octets.specs.Over.{over}
 use Rattle.writing.proofs.Laws.Header.{head-stored}
@@ -36,8 +36,9 @@ returns c =
     let w1 = written-next 0 1 (toLe 1 (f .flags)) w0 refl (length-toLe 1 (f .flags)) (c1 .write-u8 .ensures) in
     let w2 = written-next 1 1 (toLe 1 (f .«label_length» .0)) w1 refl (length-toLe 1 (f .«label_length» .0)) (c2 .write-u82 .ensures) in
     let w3 = written-next 2 2 (toLe 2 (f .«message_class»)) w2 refl (length-toLe 2 (f .«message_class»)) (c3 .write-u16 .ensures) in
-    let w4 = written-copied 4 id (c4 .copy .last .1 .0) w3 refl (omega (arith, start)) (c4 .copy .ensures) in
-    let w5 = written-next 24 4 (toLe 4 (f .«body_type»)) w4 (omega arith) (length-toLe 4 (f .«body_type»)) (c5 .write-u32 .ensures) in
+    let room = written-length w3 (omega (arith, start)) in
+    let w4 = written-next 4 20 id w3 refl twenty (copied-lent 4 20 _ (omega (arith, start)) id (c4 .copy .last .1 .0) twenty (c4 .copy .ensures)) in
+    let w5 = written-next 24 4 (toLe 4 (f .«body_type»)) w4 refl (length-toLe 4 (f .«body_type»)) (c5 .write-u32 .ensures) in
     let w6 = written-next 28 4 (toLe 4 (a .application-tag)) w5 refl (length-toLe 4 (a .application-tag)) (c6 .write-u322 .ensures) in
     w6 .bytes ∙ ap (λ (bs : List ℕ). over bs (now (a .out))) (head-stored f id (a .application-tag))
 

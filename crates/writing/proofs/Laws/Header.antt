@@ -13,9 +13,7 @@ use Rattle.rules.specs.Row.{fieldBytes, rowBytes}
 use Rattle.rules.specs.Security.{securityRow}
 use Rattle.writing.specs.Fixed.{propertiesHead, propertiesTail}
 use Rattle.writing.specs.Given.{fixed}
-use Rattle.writing.specs.Laid.{partsLength}
-use Rattle.writing.specs.Writing.{paddedPart, securityPartsBytes}
-use Rattle.writing.proofs.Laws.Row.{length-paddedPart}
+use Rattle.writing.specs.Writing.{paddedPart}
 
 pub five : (a b c d e : List ℕ) → (((a ++ b) ++ c) ++ d) ++ e ≡ a ++ (b ++ (c ++ (d ++ e)))
 five a b c d e = simp append-assoc
@@ -23,10 +21,6 @@ five a b c d e = simp append-assoc
 pub length-securityRow : (f : SecurityFields) → length (rowBytes securityRow f) ≡ 16
 unfolding rowBytes securityRow fieldBytes toLe
 length-securityRow f = refl
-
-pub length-securityParts : (i k s c p : List ℕ) → length (securityPartsBytes i k s c p) ≡ partsLength i k s c p
-unfolding securityPartsBytes
-length-securityParts i k s c p = simp (length-append, length-paddedPart) (omega arith)
 
 -- the fields stored one behind the other are the row
 pub security-stored : (f : SecurityFields)

@@ -15,7 +15,7 @@ use Rattle.writing.specs.Fixed.{PropertiesSized, SecuritySized}
 use Rattle.writing.specs.Given.{Given, propertiesFrom, propertiesGiven, securityFrom, securityGiven}
 use Rattle.writing.specs.Laid.{SectionLaid, partsLength}
 use Rattle.writing.specs.Writing.{layoutLength, sectionBytes, startOf, tooLarge, writeRefusal}
-use Rattle.writing.proofs.Laws.Placed.{HeaderPlaced, PropertiesPlaced, SectionPlaced, SecurityPlaced, section-placed}
+use Rattle.writing.proofs.Laws.Placed.{HeaderPlaced, PropertiesPlaced, SecurityPlaced, section-placed}
 use Rattle.writing.proofs.Laws.Row.{length-given, length-headerBytes, length-propertiesBytes}
 
 -- as many bytes as the layout has

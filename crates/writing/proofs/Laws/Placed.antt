@@ -10,8 +10,6 @@ use lib.Dec.{eqb, ltb}
 use Rattle.rules.specs.Properties.{labelContents, labelText, propertiesLength, propertiesSteps}
 use Rattle.rules.specs.Refusal.{bytes, limit, refusal}
 use Rattle.rules.specs.Security.{identityHead, providerText, securityContents, securityLength, securitySteps}
-use Rattle.rules.specs.declared.refusal.Refusal.{Refusal}
-use Rattle.octets.specs.declared.count.Bytes.{Bytes}
 use Rattle.rules.proofs.Laws.Accepted.{first-next, first-passed, passed}
 use Rattle.writing.specs.Given.{Given, propertiesGiven, securityGiven}
 use Rattle.writing.specs.Writing.{endNumber, headerNumber, judgeGiven, startOf, tooLarge, writeRefusal, writeSecurity}

@@ -1,7 +1,7 @@
 -- Each return is the first of P2 to P5 and P7 whose test holds; above 500 bytes a label has more than 250 units.
-use Prim.Native.Nat.{ℕ, _+_, _/_, _%_, _≤_, _<_, min}
+use Prim.Native.Nat.{_+_, _/_, _%_, _≤_, _<_, min}
 use denote.Ref.{now}
-use mathlib.Core.Path.{_≡_, ap, sym, subst, _∙_}
+use mathlib.Core.Path.{_≡_, ap, _∙_}
 use native.Mathlib.Omega.{arith}
 use borrow.Author.Tests.{eq-eqb, lt-ltb}
 use lib.ListN.{length}

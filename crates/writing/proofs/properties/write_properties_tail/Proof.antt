@@ -10,7 +10,6 @@ use Rattle.octets.proofs.Laws.Over.{written-next, written-none}
 use Rattle.octets.proofs.Laws.Steps.{the}
 use Rattle.octets.specs.Over.{over}
 use Rattle.writing.proofs.Laws.Header.{tail-stored}
-use borrow.Author.Needs.{needs}
 use Rattle.writing.proofs.properties.write_properties_tail.Statement.{statement}
 use Rattle.writing.proofs.properties.write_properties_tail.Tie as tie
 

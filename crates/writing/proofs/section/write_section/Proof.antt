@@ -1,11 +1,11 @@
 -- The refusal, or what follows where no step but 13 refuses.
 use denote.Ref.{now}
-use mathlib.Core.Path.{_≡_, sym, ap, _∙_}
+use mathlib.Core.Path.{sym, ap, _∙_}
 use borrow.Author.Tests.{ne-eqb}
 use Rattle.octets.proofs.Laws.Steps.{the}
 use Rattle.rules.specs.declared.refusal.Refusal.{Refusal}
 use Rattle.writing.specs.Given.{Given, given}
-use Rattle.writing.specs.Writing.{writeAnswer, writeBytes, writeRefusal}
+use Rattle.writing.specs.Writing.{writeAnswer, writeBytes}
 use borrow.Author.Needs.{needs}
 use Rattle.writing.proofs.section.write_section.Statement.{statement}
 use Rattle.writing.proofs.section.write_section.Tie as tie

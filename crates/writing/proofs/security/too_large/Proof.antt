@@ -1,7 +1,6 @@
 -- The code makes the definition's tests in its order.
 use Rattle.octets.proofs.Laws.Steps.{steps}
 use Rattle.writing.specs.Writing.{tooLarge}
-use borrow.Author.Needs.{needs}
 use Rattle.writing.proofs.security.too_large.Statement.{statement}
 use Rattle.writing.proofs.security.too_large.Tie as tie
 

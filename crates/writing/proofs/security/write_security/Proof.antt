@@ -3,11 +3,10 @@ use denote.Ref.{now}
 use mathlib.Core.Path.{refl, sym}
 use native.Mathlib.Omega.{arith}
 use lib.ListN.{length}
-use Rattle.octets.specs.Padding.{padded}
 use Rattle.octets.proofs.Laws.Over.{written-first, written-rest}
 use Rattle.octets.proofs.Laws.Steps.{the}
 use Rattle.writing.specs.Writing.{securityPartsBytes}
-use Rattle.writing.proofs.Laws.Header.{length-securityParts, length-securityRow}
+use Rattle.writing.proofs.Laws.Header.{length-securityRow}
 use borrow.Author.Needs.{needs}
 use Rattle.writing.proofs.security.write_security.Statement.{statement}
 use Rattle.writing.proofs.security.write_security.Tie as tie

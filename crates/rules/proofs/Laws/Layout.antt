@@ -1,8 +1,10 @@
 -- Layouts: no part is longer than its header, and parts that lie where the layout puts them.
-use Prim.Native.Nat.{ℕ, _+_, _≤_}
+use Prim.Native.Nat.{ℕ, _+_, _%_, _≤_}
 use mathlib.Core.Path.{_≡_}
 use native.Mathlib.Omega.{arith}
+use Rattle.octets.proofs.Laws.Padding.{padded-multiple, padded-zero}
 use Rattle.octets.specs.Padding.{padded}
+use Rattle.rules.specs.Layout.{Aligned, EmptyTakesNoRoom}
 use Rattle.rules.specs.Properties.{bodyAt, extensionAt, labelBytes, propertiesLength, propertiesParts}
 use Rattle.rules.specs.Refusal.{bytes}
 use Rattle.rules.specs.Security.{certAt, keyAt, part, providerAt, securityLength, securityParts, signatureAt}
@@ -71,3 +73,27 @@ pub properties-parts : (p : ℕ) (f : PropertiesFields) (a b c : Part) (n : ℕ)
 unfolding propertiesParts
 properties-parts p f a b c n pa pb pc pn =
     λ i. record { label = pa i; extension = pb i; body = pc i; «section_length» = bytes (pn i) }
+
+-- each part begins at a multiple of 4, by the law of padding
+pub aligned : (f : SecurityFields) → Aligned f
+unfolding securityLength providerAt certAt signatureAt keyAt
+aligned f =
+    let multiple : (n : ℕ) → padded 4 n % 4 ≡ 0 = padded-multiple 4 (omega arith) in
+    let identity = multiple (f .«sender_id_size» .0) in
+    let key = multiple (f .«encryption_key_size» .0) in
+    let signature = multiple (f .«signature_size» .0) in
+    let certificate = multiple (f .«sender_cert_size» .0) in
+    let provider = multiple (f .«provider_info_size» .0) in omega arith
+
+-- and an empty one takes no room
+pub empty-takes-no-room : (f : SecurityFields) → EmptyTakesNoRoom f
+unfolding securityLength providerAt certAt signatureAt keyAt
+empty-takes-no-room f =
+    let none : (n : ℕ) → n ≡ 0 → padded 4 n ≡ 0 = λ n e. rw e (padded-zero 4 (omega arith)) in
+    record {
+      identity = λ e. omega (arith, none (f .«sender_id_size» .0) e);
+      key = λ e. omega (arith, none (f .«encryption_key_size» .0) e);
+      signature = λ e. omega (arith, none (f .«signature_size» .0) e);
+      certificate = λ e. omega (arith, none (f .«sender_cert_size» .0) e);
+      provider = λ e. omega (arith, none (f .«provider_info_size» .0) e);
+    }

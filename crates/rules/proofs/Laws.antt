@@ -5,4 +5,5 @@ pub mod Layout
 pub mod Listed
 pub mod Masked
 pub mod Named
+pub mod Output
 pub mod Row

@@ -1,4 +1,4 @@
+pub mod Read
 pub mod RoundTrip
 pub mod Steps
-pub mod Value
 pub mod Write

@@ -2,46 +2,26 @@
 use Prim.Native.Nat.{ℕ, _≤_, _<_}
 use mathlib.Core.Path.{_≡_}
 use mathlib.Core.Bool.{false}
-use mathlib.Core.List.{List, [], _∷_, _++_}
+use mathlib.Core.List.{List, _∷_, _++_}
 use lib.ListN.{length, take, drop}
+use Rattle.octets.specs.Over.{over}
 use Rattle.octets.specs.Text.{units}
 use Rattle.rules.specs.Properties.{labelText}
 use Rattle.rules.specs.Refusal.{bytes}
 use Rattle.rules.specs.Summary.{partOf}
-use Rattle.queues.specs.Read.{readImage, valueOf}
+use Rattle.rules.specs.declared.section.Output.the-variants.{Written}
+use Rattle.queues.specs.Read.{imageFrom, readImage}
 use Rattle.queues.specs.Steps.{isString}
-use Rattle.octets.specs.Over.{over}
 use Rattle.queues.specs.Write.{writeAnswer, writeBytes}
 use Rattle.queues.specs.declared.format.QueueFormat.{QueueFormat}
 use Rattle.queues.specs.declared.image.Image.{Image}
 use Rattle.queues.specs.declared.image.ImageRead.the-variants.{Accepted}
-use Rattle.rules.specs.declared.section.Output.the-variants.{Written}
-use Rattle.queues.specs.declared.image.Value.{Value}
-use Rattle.queues.specs.declared.image.Value.the-variants.{Nothing, Guid, ObjectId, MulticastId, Text, GuidAndText}
-
--- the bytes that a value has in the image it was read from: GUID, OBJECTID or MULTICAST_ID
-unfoldable pub fixedOf : List ℕ → Value → List ℕ
-fixedOf s Nothing = []
-fixedOf s (Guid p) = partOf s p
-fixedOf s (ObjectId p) = partOf s p
-fixedOf s (MulticastId p) = partOf s p
-fixedOf s (Text p) = []
-fixedOf s (GuidAndText p q) = partOf s p
-
--- and string
-unfoldable pub textOf : List ℕ → Value → List ℕ
-textOf s Nothing = []
-textOf s (Guid p) = []
-textOf s (ObjectId p) = []
-textOf s (MulticastId p) = []
-textOf s (Text p) = partOf s p
-textOf s (GuidAndText p q) = partOf s q
 
 -- What was written, as the image `s`, reads back.
 pub record ReadsBack (f : QueueFormat) (fixed text s : List ℕ) : Type 0 where
-  pub image : readImage s ≡ Accepted (record { format = f; value = valueOf (f .kind) (length text) })
-  pub fixed-bytes : fixedOf s (valueOf (f .kind) (length text)) ≡ fixed
-  pub text-bytes : textOf s (valueOf (f .kind) (length text)) ≡ text
+  pub image : readImage s ≡ Accepted (imageFrom f (length fixed) (length text))
+  pub fixed-bytes : partOf s (imageFrom f (length fixed) (length text) .fixed) ≡ fixed
+  pub text-bytes : partOf s (imageFrom f (length fixed) (length text) .text) ≡ text
 
 pub record WrittenReadsBack : Type 0 where
   pub reads : (f : QueueFormat) (fixed text out : List ℕ) (n : ℕ) → writeAnswer f fixed text out ≡ Written (bytes n)
@@ -53,8 +33,8 @@ reservedZero s = take 2 s ++ (0 ∷ 0 ∷ drop 4 s)
 
 -- What was read from `s` writes back, given room.
 pub record WritesBack (s : List ℕ) (i : Image) (out : List ℕ) : Type 0 where
-  pub answer : writeAnswer (i .format) (fixedOf s (i .value)) (textOf s (i .value)) out ≡ Written (bytes (length s))
-  pub output : writeBytes (i .format) (fixedOf s (i .value)) (textOf s (i .value)) out ≡ over (reservedZero s) out
+  pub answer : writeAnswer (i .format) (partOf s (i .fixed)) (partOf s (i .text)) out ≡ Written (bytes (length s))
+  pub output : writeBytes (i .format) (partOf s (i .fixed)) (partOf s (i .text)) out ≡ over (reservedZero s) out
 
 pub record ReadWritesBack : Type 0 where
   pub writes : (s : List ℕ) (i : Image) (out : List ℕ) → readImage s ≡ Accepted i → length s ≤ length out → WritesBack s i out

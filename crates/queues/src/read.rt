@@ -1,81 +1,68 @@
-// Reading an image.
+// Reading an image: every step first, then the image that passed them.
 use crate::format::QueueFormat;
 use crate::image::Image;
 use crate::image::ImageRead;
-use crate::image::Value;
 use crate::steps::fixed_size;
 use crate::steps::format_steps;
 use crate::steps::refusal_of;
 use crate::steps::text_steps;
 use octets::count::Bytes;
+use octets::number::u8_at;
 use rules::layout::part;
 use rules::refusal;
-use rules::refusal::Checked;
+use rules::section::Part;
 ghost use mathlib.Core.Path.{_≡_};
-ghost use Prim.Native.Nat.{_≤_};
-ghost use lib.ListN.{drop, length};
-ghost use Rattle.queues.specs.Read.{afterSteps, formatOf, readImage, valueOf};
-ghost use Rattle.queues.specs.Steps.{valueSteps};
+ghost use Rattle.queues.specs.Read.{formatOf, imageSteps, partAt, readImage};
 
-// The value of a type, whose string is `text` bytes long.
-fn value_of(kind: u8, text: Bytes) -> Value
-    ensures { λ r. ⌜ r ≡ valueOf kind (text .0) ⌝ }
+fn format_of(s: &[u8]) -> QueueFormat
+    ensures { λ r. ⌜ r ≡ formatOf (now (s .entry)) ⌝ }
 {
-    if kind == QueueFormat::TYPE_UNKNOWN {
-        return Value::Nothing;
-    }
-    if kind == QueueFormat::TYPE_PUBLIC {
-        return Value::Guid(part(Bytes(4), Bytes(16)));
-    }
-    if kind == QueueFormat::TYPE_MACHINE {
-        return Value::Guid(part(Bytes(4), Bytes(16)));
-    }
-    if kind == QueueFormat::TYPE_CONNECTOR {
-        return Value::Guid(part(Bytes(4), Bytes(16)));
-    }
-    if kind == QueueFormat::TYPE_PRIVATE {
-        return Value::ObjectId(part(Bytes(4), Bytes(20)));
-    }
-    if kind == QueueFormat::TYPE_MULTICAST {
-        return Value::MulticastId(part(Bytes(4), Bytes(8)));
-    }
-    if kind == QueueFormat::TYPE_DL {
-        return Value::GuidAndText(part(Bytes(4), Bytes(16)), part(Bytes(20), text));
-    }
-    Value::Text(part(Bytes(4), text))
+    QueueFormat::new(u8_at(s, Bytes(0)), u8_at(s, Bytes(1)))
 }
 
-// 32, 33
-fn read_value(s: &[u8], format: QueueFormat) -> ImageRead
-    requires { ⌜ format ≡ formatOf (now s) ⌝ }
-    requires { ⌜ 4 ≤ length (now s) ⌝ }
-    ensures { λ r. ⌜ r ≡ afterSteps (now (s .entry)) (valueSteps (format .kind) (drop 4 (now (s .entry)))) ⌝ }
+// 1, then 30 to 33
+fn image_steps(s: &[u8]) -> u32
+    ensures { λ r. ⌜ r ≡ imageSteps (now (s .entry)) ⌝ }
 {
-    let kind = format.kind;
-    let at = 4 + fixed_size(kind).0;
+    if s.len() < 4 {
+        return refusal::INPUT_SHORT;
+    }
+    let format = format_of(s);
+    let number = format_steps(format);
+    if number != refusal::PASSED {
+        return number;
+    }
+    let at = 4 + fixed_size(format.kind).0;
     if s.len() < at {
-        return ImageRead::Refused(refusal_of(refusal::QUEUE_VALUE));
+        return refusal::QUEUE_VALUE;
     }
-    let text = &s[at..];
-    match text_steps(kind, text) {
-        Checked::Refused(r) => ImageRead::Refused(r),
-        Checked::Passed => ImageRead::Accepted(Image {
-            format,
-            value: value_of(kind, Bytes(s.len() - at)),
-        }),
+    text_steps(format.kind, &s[at..])
+}
+
+// So many bytes from `start`; no bytes are at 0.
+fn part_at(start: Bytes, length: Bytes) -> Part
+    ensures { λ r. ⌜ r ≡ partAt (start .0) (length .0) ⌝ }
+{
+    if length.0 == 0 {
+        return part(Bytes(0), Bytes(0));
     }
+    part(start, length)
 }
 
 // Reads the input, which is exactly one image.
 pub fn read_image(s: &[u8]) -> ImageRead
     ensures { λ r. ⌜ r ≡ readImage (now (s .entry)) ⌝ }
 {
-    if s.len() < 4 {
-        return ImageRead::Refused(refusal_of(refusal::INPUT_SHORT));
+    let number = image_steps(s);
+    if number != refusal::PASSED {
+        return ImageRead::Refused(refusal_of(number));
     }
-    let format = QueueFormat::new(s[0], s[1]);
-    match format_steps(format) {
-        Checked::Refused(r) => ImageRead::Refused(r),
-        Checked::Passed => read_value(s, format),
-    }
+    let format = format_of(s);
+    let fixed = fixed_size(format.kind);
+    let at = 4 + fixed.0;
+    ImageRead::Accepted(Image {
+        format,
+        fixed: part_at(Bytes(4), fixed),
+        text: part_at(Bytes(at), Bytes(s.len() - at)),
+    })
 }

@@ -1,10 +1,9 @@
-// The steps that reading and writing share: type, pair and value.
+// The steps that reading and writing share: type, pair and value. Each list answers the number of the first that fails.
 use crate::format::QueueFormat;
 use octets::count::Bytes;
 use octets::count::Units;
 use octets::text::is_text;
 use rules::refusal;
-use rules::refusal::Checked;
 use rules::refusal::Refusal;
 ghost use mathlib.Core.Path.{_≡_};
 ghost use Rattle.rules.specs.Refusal.{refusal};
@@ -21,16 +20,16 @@ pub(crate) fn refusal_of(number: u32) -> Refusal
 }
 
 // 30, 31
-pub(crate) fn format_steps(format: QueueFormat) -> Checked
+pub(crate) fn format_steps(format: QueueFormat) -> u32
     ensures { λ r. ⌜ r ≡ formatSteps format ⌝ }
 {
     if QueueFormat::TYPE_SUBQUEUE < format.kind {
-        return Checked::Refused(refusal_of(refusal::QUEUE_TYPE));
+        return refusal::QUEUE_TYPE;
     }
     if !format.pair_passes() {
-        return Checked::Refused(refusal_of(refusal::QUEUE_SUFFIX));
+        return refusal::QUEUE_SUFFIX;
     }
-    Checked::Passed
+    refusal::PASSED
 }
 
 // The size of what stands before the string, or is the whole value.
@@ -71,17 +70,17 @@ fn is_string(text: &[u8], least: Units) -> bool
     is_text(text)
 }
 
-fn string_step(text: &[u8], least: Units) -> Checked
+fn string_step(text: &[u8], least: Units) -> u32
     ensures { λ r. ⌜ r ≡ stringStep (least .0) (now (text .entry)) ⌝ }
 {
     if !is_string(text, least) {
-        return Checked::Refused(refusal_of(refusal::QUEUE_STRING));
+        return refusal::QUEUE_STRING;
     }
-    Checked::Passed
+    refusal::PASSED
 }
 
 // 32, 33, for a value of `fixed_size` bytes and the text after them.
-pub(crate) fn text_steps(kind: u8, text: &[u8]) -> Checked
+pub(crate) fn text_steps(kind: u8, text: &[u8]) -> u32
     ensures { λ r. ⌜ r ≡ textSteps kind (now (text .entry)) ⌝ }
 {
     if kind == QueueFormat::TYPE_DIRECT {
@@ -92,12 +91,12 @@ pub(crate) fn text_steps(kind: u8, text: &[u8]) -> Checked
     }
     if kind == QueueFormat::TYPE_DL {
         if text.len() < 2 {
-            return Checked::Refused(refusal_of(refusal::QUEUE_VALUE));
+            return refusal::QUEUE_VALUE;
         }
         return string_step(text, Units(1));
     }
     if 0 < text.len() {
-        return Checked::Refused(refusal_of(refusal::QUEUE_VALUE));
+        return refusal::QUEUE_VALUE;
     }
-    Checked::Passed
+    refusal::PASSED
 }

@@ -7,7 +7,6 @@ use crate::steps::text_steps;
 use octets::count::Bytes;
 use octets::over::copy;
 use rules::refusal;
-use rules::refusal::Checked;
 use rules::section::Output;
 ghost use mathlib.Core.Path.{_≡_};
 ghost use mathlib.Core.List.{[], _++_};
@@ -17,19 +16,17 @@ ghost use Rattle.octets.specs.Over.{over};
 ghost use Rattle.queues.specs.Write.{imageBytes, writeAnswer, writeBytes, writeSteps};
 
 // 30 to 33
-fn write_steps(format: QueueFormat, fixed: &[u8], text: &[u8]) -> Checked
+fn write_steps(format: QueueFormat, fixed: &[u8], text: &[u8]) -> u32
     ensures { λ r. ⌜ r ≡ writeSteps format (now (fixed .entry)) (now (text .entry)) ⌝ }
 {
-    match format_steps(format) {
-        Checked::Refused(r) => Checked::Refused(r),
-        Checked::Passed => {
-            let kind = format.kind;
-            if fixed.len() != fixed_size(kind).0 {
-                return Checked::Refused(refusal_of(refusal::QUEUE_VALUE));
-            }
-            text_steps(kind, text)
-        }
+    let number = format_steps(format);
+    if number != refusal::PASSED {
+        return number;
     }
+    if fixed.len() != fixed_size(format.kind).0 {
+        return refusal::QUEUE_VALUE;
+    }
+    text_steps(format.kind, text)
 }
 
 fn put_head(format: QueueFormat, out: &mut [u8])
@@ -57,15 +54,14 @@ pub fn write_image(format: QueueFormat, fixed: &[u8], text: &[u8], out: &mut [u8
     ensures { λ r. ⌜ r ≡ writeAnswer format (now (fixed .entry)) (now (text .entry)) (now (out .entry)) ⌝ }
     ensures { λ _. ⌜ now (out .exit) ≡ writeBytes format (now (fixed .entry)) (now (text .entry)) (now (out .entry)) ⌝ }
 {
-    match write_steps(format, fixed, text) {
-        Checked::Refused(r) => Output::Refused(r),
-        Checked::Passed => {
-            let length = 4 + fixed.len() + text.len();
-            if out.len() < length {
-                return Output::Refused(refusal_of(refusal::OUTPUT_SHORT));
-            }
-            put_image(format, fixed, text, out);
-            Output::Written(Bytes(length))
-        }
+    let number = write_steps(format, fixed, text);
+    if number != refusal::PASSED {
+        return Output::Refused(refusal_of(number));
     }
+    let length = 4 + fixed.len() + text.len();
+    if out.len() < length {
+        return Output::Refused(refusal_of(refusal::OUTPUT_SHORT));
+    }
+    put_image(format, fixed, text, out);
+    Output::Written(Bytes(length))
 }

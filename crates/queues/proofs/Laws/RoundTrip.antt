@@ -4,114 +4,72 @@ use mathlib.Core.Path.{_≡_, refl, sym, ap, subst, _∙_}
 use mathlib.Core.Bool.{Bool, true, false, and-true, and-false, false-and}
 use mathlib.Core.List.{List, [], _∷_, _++_}
 use native.Mathlib.Omega.{arith}
-use borrow.Author.Tests.{lt-ltb, le-ltb, eq-eqb, ne-eqb, ltb-true, ltb-false}
+use borrow.Author.Tests.{lt-ltb, le-ltb, eq-eqb, ne-eqb, eqb-true}
 use lib.ListN.{length, take, drop, length-drop, take-append-drop}
 use lib.Seq.{drop-at, drop-drop, length-take-le, take-at, take-length}
-use lib.Dec.{ltb}
-use Rattle.octets.specs.declared.count.Bytes.{Bytes}
-use Rattle.octets.specs.Text.{units}
-use Rattle.octets.proofs.Laws.Part.{rest-drop, within-in}
-use Rattle.rules.specs.Properties.{labelText}
-use Rattle.rules.specs.Refusal.{bytes}
-use Rattle.rules.specs.declared.refusal.Refusal.{Refusal}
-use Rattle.rules.specs.declared.refusal.Checked.{Checked}
-use Rattle.rules.specs.declared.refusal.Checked.the-variants.{Passed, Refused}
-use Rattle.queues.specs.Read.{afterSteps, formatOf, imageOf, readImage, valueOf}
-use Rattle.queues.specs.RoundTrip.{fixedOf, textOf, reservedZero, ReadsBack, ReadWritesBack, StringIsLabel, WritesBack, WrittenReadsBack}
-use Rattle.queues.specs.Steps.{andThen, fixedSize, formatSteps, isString, valueSteps}
+use lib.Dec.{eqb}
 use Rattle.octets.specs.Over.{over}
-use Rattle.queues.specs.Write.{answerAfter, bytesAfter, imageBytes, writeAnswer, writeBytes, writeSteps}
+use Rattle.octets.specs.Part.{within}
+use Rattle.octets.specs.Text.{units}
+use Rattle.octets.proofs.Laws.Part.{rest-drop, within-in, within-none}
+use Rattle.rules.proofs.Laws.Accepted.{first-next}
+use Rattle.rules.proofs.Laws.Output.{ends-written, has-written}
+use Rattle.rules.specs.Output.{writerOutput}
+use Rattle.rules.specs.Properties.{labelText}
+use Rattle.rules.specs.Refusal.{bytes, refusal}
+use Rattle.rules.specs.Summary.{partOf}
+use Rattle.rules.specs.declared.section.Output.the-variants.{Written}
+use Rattle.queues.specs.Read.{formatOf, imageFrom, imageOf, partAt, readImage}
+use Rattle.queues.specs.RoundTrip.{reservedZero, ReadsBack, ReadWritesBack, StringIsLabel, WritesBack, WrittenReadsBack}
+use Rattle.queues.specs.Steps.{fixedSize, formatSteps, isString}
+use Rattle.queues.specs.Write.{imageBytes, writeAnswer, writeBytes, writeSteps}
 use Rattle.queues.specs.declared.format.QueueFormat.{QueueFormat}
 use Rattle.queues.specs.declared.image.Image.{Image}
-use Rattle.queues.specs.declared.image.ImageRead.the-variants.{Accepted, Refused as Read·Refused}
-use Rattle.rules.specs.declared.section.Output.the-variants.{Written, Refused as Written·Refused}
-use Rattle.queues.proofs.Laws.Steps.{value-drop, value-short, value-split}
-use Rattle.queues.proofs.Laws.Value.{fixedOf-value, format-kind, stringless, textOf-value}
-use Rattle.queues.proofs.Laws.Write.{length-image, never, passing, Passing}
+use Rattle.queues.specs.declared.image.ImageRead.the-variants.{Accepted}
+use Rattle.queues.proofs.Laws.Read.{accepted-readable, readable-accepted, readable-fits, Readable}
+use Rattle.queues.proofs.Laws.Write.{length-image, passing, Passing}
+
+-- the bytes of a part of the value
+partAt-within : (s : List ℕ) (at n : ℕ) → partOf s (partAt at n) ≡ within s at n
+unfolding partAt
+partAt-within s at n = go (eqb n 0) refl
+  where
+    go : (b : Bool) → eqb n 0 ≡ b → partOf s (partAt at n) ≡ within s at n
+    go true e = rw (eqb-true n 0 e) (within-none s 0 ∙ sym (within-none s at))
+    go false e = rw e
 
 -- an image of bytes that pass the writer's steps
 image-reads : (f : QueueFormat) (fixed text : List ℕ) → Passing f fixed text → ReadsBack f fixed text (imageBytes f (fixed ++ text))
-unfolding imageBytes readImage formatOf afterSteps andThen imageOf
+unfolding imageBytes formatOf imageOf imageFrom
 image-reads f fixed text p =
     let s : List ℕ = imageBytes f (fixed ++ text) in
+    let n = length fixed in
     let m = length text in
-    let n = fixedSize (f .kind) in
-    let long : length s ≡ 4 + length fixed + m = length-image f fixed text in
-    let size : length s - (4 + n) ≡ m = omega (arith, p .size) in
-    let kind = format-kind f (p .format) in
-    let stringy = stringless (f .kind) text (sym (value-split (f .kind) fixed text (p .size)) ∙ p .value) in
+    let long : length s ≡ 4 + n + m = length-image f fixed text in
+    let rest : length s - (4 + n) ≡ m = omega arith in
     record {
       image =
-          rw (le-ltb (length s) 4 (omega arith), p .format, p .value)
-          (ap (λ (k : ℕ). Accepted (record { format = f; value = valueOf (f .kind) k })) size);
-      fixed-bytes =
-          fixedOf-value m s (f .kind) kind
-          ∙ within-in s 4 n (omega (arith, p .size))
-          ∙ take-at fixed text n (p .size);
+          readable-accepted s (record { long = omega arith; format = p .format; value = p .value })
+          ∙ ap (λ (k : ℕ). Accepted (imageFrom f k (length s - (4 + k)))) (sym (p .size))
+          ∙ ap (λ (k : ℕ). Accepted (imageFrom f n k)) rest;
+      fixed-bytes = partAt-within s 4 n ∙ within-in s 4 n (omega arith) ∙ take-at fixed text n refl;
       text-bytes =
-          textOf-value m s (f .kind) kind stringy
-          ∙ within-in s (4 + n) m (omega (arith, p .size))
-          ∙ ap (take m) (sym (drop-drop n 4 s) ∙ drop-at fixed text n (p .size))
+          partAt-within s (4 + n) m
+          ∙ within-in s (4 + n) m (omega arith)
+          ∙ ap (take m) (sym (drop-drop n 4 s) ∙ drop-at fixed text n refl)
           ∙ take-length text;
     }
 
 written-reads : (f : QueueFormat) (fixed text out : List ℕ) (n : ℕ) → writeAnswer f fixed text out ≡ Written (bytes n)
     → ReadsBack f fixed text (take n (writeBytes f fixed text out))
-unfolding writeAnswer writeBytes answerAfter bytesAfter over
-written-reads f fixed text out n w = go (writeSteps f fixed text) (ltb (length out) (length image)) refl refl
-  where
-    image : List ℕ
-    image = imageBytes f (fixed ++ text)
-
-    go : (a : Checked) (b : Bool) → writeSteps f fixed text ≡ a → ltb (length out) (length image) ≡ b
-        → ReadsBack f fixed text (take n (writeBytes f fixed text out))
-    go (Refused r) b e l = let w : Written·Refused r ≡ Written (bytes n) = rw e at w in let z : _≡_ {A = ℕ} 0 1 = cc in absurd (omega arith)
-    go Passed true e l = let w = rw (e, l) at w in let z : _≡_ {A = ℕ} 0 1 = cc in absurd (omega arith)
-    go Passed false e l =
-        let w : Written (bytes (length image)) ≡ Written (bytes n) = rw (e, l) at w in
-        let same : bytes (length image) ≡ bytes n = cc in
-        let k : length image ≡ n = ap (λ (x : Bytes). x .0) same in
-        rw (e, l, take-at image (drop (length image) out) n k) (image-reads f fixed text (passing f fixed text e))
+unfolding writeAnswer writeBytes writerOutput over
+written-reads f fixed text out n w =
+    let image : List ℕ = imageBytes f (fixed ++ text) in
+    let h = has-written (refusal (writeSteps f fixed text) 0) image out n w in
+    rw (w, take-at image (drop (length image) out) n (h .size)) (image-reads f fixed text (passing f fixed text (h .passed)))
 
 pub written-reads-back : WrittenReadsBack
 written-reads-back = record { reads = written-reads }
-
--- What holds where reading accepts.
-record Accepting (s : List ℕ) (i : Image) : Type 0 where
-  long : 4 ≤ length s
-  format : formatSteps (formatOf s) ≡ Passed
-  value : valueSteps (formatOf s .kind) (drop 4 s) ≡ Passed
-  fits : fixedSize (formatOf s .kind) ≤ length (drop 4 s)
-  image : imageOf s ≡ i
-
-value-fits : (t : ℕ) (v : List ℕ) → valueSteps t v ≡ Passed → fixedSize t ≤ length v
-value-fits t v p = go (ltb (length v) (fixedSize t)) refl
-  where
-    go : (b : Bool) → ltb (length v) (fixedSize t) ≡ b → fixedSize t ≤ length v
-    go true e = absurd (never _ (sym (value-short t v (ltb-true (length v) (fixedSize t) e)) ∙ p))
-    go false e = ltb-false (length v) (fixedSize t) e
-
-accepting : (s : List ℕ) (i : Image) → readImage s ≡ Accepted i → Accepting s i
-unfolding readImage afterSteps andThen
-accepting s i r = go (ltb (length s) 4) (formatSteps (formatOf s)) (valueSteps (formatOf s .kind) (drop 4 s)) refl refl refl
-  where
-    wrong : (q : Refusal) → Read·Refused q ≡ Accepted i → Accepting s i
-    wrong q e = let z : _≡_ {A = ℕ} 0 1 = cc in absurd (omega arith)
-
-    go : (a : Bool) (b c : Checked) → ltb (length s) 4 ≡ a → formatSteps (formatOf s) ≡ b
-        → valueSteps (formatOf s .kind) (drop 4 s) ≡ c → Accepting s i
-    go true b c e f g = wrong _ (rw e at r)
-    go false (Refused q) c e f g = wrong q (rw (e, f) at r)
-    go false Passed (Refused q) e f g = wrong q (rw (e, f, g) at r)
-    go false Passed Passed e f g =
-        let w : Accepted (imageOf s) ≡ Accepted i = rw (e, f, g) at r in
-        record {
-          long = ltb-false (length s) 4 e;
-          format = f;
-          value = g;
-          fits = value-fits (formatOf s .kind) (drop 4 s) g;
-          image = cc;
-        }
 
 -- the image of the bytes that were read, but for the reserved ones
 image-again : (s : List ℕ) → 4 ≤ length s → imageBytes (formatOf s) (drop 4 s) ≡ reservedZero s
@@ -126,54 +84,48 @@ length-reservedZero : (s : List ℕ) → 4 ≤ length s → length (reservedZero
 unfolding imageBytes
 length-reservedZero s h = ap length (sym (image-again s h)) ∙ omega (arith, length-drop 4 s)
 
--- an image whose steps pass is written, given room
-image-writes : (f : QueueFormat) (fixed text out image : List ℕ) → writeSteps f fixed text ≡ Passed
-    → imageBytes f (fixed ++ text) ≡ image → length image ≤ length out
-    → (writeAnswer f fixed text out ≡ Written (bytes (length image))) × (writeBytes f fixed text out ≡ over image out)
-unfolding writeAnswer writeBytes answerAfter bytesAfter
-image-writes f fixed text out image p e h =
-    let room = le-ltb (length out) (length image) h in (rw (p, e, room), rw (p, e, room))
-
-module _ (s : List ℕ) (i : Image) (a : Accepting s i) where
+module _ (s : List ℕ) (r : Readable s) where
   -- the value's bytes are the image's
-  fixed-again : fixedOf s (imageOf s .value) ≡ take (fixedSize (formatOf s .kind)) (drop 4 s)
-  unfolding imageOf
-  fixed-again =
-      let t = formatOf s .kind in
-      fixedOf-value (length s - (4 + fixedSize t)) s t (format-kind (formatOf s) (a .format))
-      ∙ within-in s 4 (fixedSize t) (omega (arith, a .fits, length-drop 4 s))
+  fixed-again : partOf s (imageOf s .fixed) ≡ take (fixedSize (formatOf s .kind)) (drop 4 s)
+  unfolding imageOf imageFrom
+  fixed-again = let n = fixedSize (formatOf s .kind) in partAt-within s 4 n ∙ within-in s 4 n (readable-fits s r)
 
-  text-again : textOf s (imageOf s .value) ≡ drop (fixedSize (formatOf s .kind)) (drop 4 s)
-  unfolding imageOf
+  text-again : partOf s (imageOf s .text) ≡ drop (fixedSize (formatOf s .kind)) (drop 4 s)
+  unfolding imageOf imageFrom
   text-again =
-      let t = formatOf s .kind in
-      let n = fixedSize t in
+      let n = fixedSize (formatOf s .kind) in
       let m = length s - (4 + n) in
-      let v : List ℕ = drop 4 s in
-      let none = stringless t (drop n v) (sym (value-drop t v (a .fits)) ∙ a .value) in
-      textOf-value m s t (format-kind (formatOf s) (a .format)) (λ q. omega (arith, none q, length-drop n v, length-drop 4 s))
-      ∙ within-in s (4 + n) m (omega (arith, a .fits, length-drop 4 s))
+      partAt-within s (4 + n) m
+      ∙ within-in s (4 + n) m (omega (arith, readable-fits s r))
       ∙ rest-drop s (4 + n)
       ∙ sym (drop-drop n 4 s)
 
-  steps-again : writeSteps (formatOf s) (fixedOf s (imageOf s .value)) (textOf s (imageOf s .value)) ≡ Passed
-  unfolding writeSteps andThen
+  steps-again : writeSteps (formatOf s) (partOf s (imageOf s .fixed)) (partOf s (imageOf s .text)) ≡ 0
+  unfolding writeSteps
   steps-again =
       let n = fixedSize (formatOf s .kind) in
       let v : List ℕ = drop 4 s in
-      rw (fixed-again, text-again, a .format, eq-eqb (length (take n v)) n (length-take-le n v (a .fits)), take-append-drop n v) (a .value)
+      let size = length-take-le n v (omega (arith, readable-fits s r, length-drop 4 s)) in
+      rw (fixed-again, text-again) (first-next (formatSteps (formatOf s)) _ (r .format) ∙ rw (eq-eqb (length (take n v)) n size, take-append-drop n v) (r .value))
 
-  bytes-again : imageBytes (formatOf s) (fixedOf s (imageOf s .value) ++ textOf s (imageOf s .value)) ≡ reservedZero s
-  bytes-again = rw (fixed-again, text-again, take-append-drop) (image-again s (a .long))
+  bytes-again : imageBytes (formatOf s) (partOf s (imageOf s .fixed) ++ partOf s (imageOf s .text)) ≡ reservedZero s
+  bytes-again = rw (fixed-again, text-again, take-append-drop) (image-again s (r .long))
 
 read-writes : (s : List ℕ) (i : Image) (out : List ℕ) → readImage s ≡ Accepted i → length s ≤ length out → WritesBack s i out
-unfolding imageOf formatOf
-read-writes s i out r h =
-    let a = accepting s i r in
-    let l = length-reservedZero s (a .long) in
-    let w = image-writes (formatOf s) (fixedOf s (imageOf s .value)) (textOf s (imageOf s .value)) out (reservedZero s) (steps-again s i a) (bytes-again s i a) (omega arith) in
-    subst (λ (j : Image). WritesBack s j out) (a .image)
-    (record { answer = w .0 ∙ ap (λ (n : ℕ). Written (bytes n)) l; output = w .1 })
+unfolding imageOf imageFrom writeAnswer writeBytes
+read-writes s i out e h =
+    let a = accepted-readable s i e in
+    let f = formatOf s in
+    let fixed : List ℕ = partOf s (imageOf s .fixed) in
+    let text : List ℕ = partOf s (imageOf s .text) in
+    let same = bytes-again s (a .0) in
+    let size = ap length same ∙ length-reservedZero s (a .0 .long) in
+    let w = ends-written (refusal (writeSteps f fixed text) 0) (imageBytes f (fixed ++ text)) out (steps-again s (a .0)) (omega (arith, size)) in
+    subst (λ (j : Image). WritesBack s j out) (a .1)
+    (record {
+      answer = sym (w .0) ∙ ap (λ (n : ℕ). Written (bytes n)) size;
+      output = sym (w .1) ∙ ap (λ (b : List ℕ). over b out) same;
+    })
 
 pub read-writes-back : ReadWritesBack
 read-writes-back = record { writes = read-writes }

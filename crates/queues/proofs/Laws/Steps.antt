@@ -12,7 +12,7 @@ use Rattle.octets.specs.Text.{isText, units}
 use Rattle.octets.proofs.Laws.Part.{rest-drop}
 use Rattle.octets.proofs.Laws.Text.{length-units}
 use Rattle.rules.specs.Listed.{listed}
-use Rattle.queues.specs.Steps.{fixedSize, isString, refused, textSteps, valueSteps}
+use Rattle.queues.specs.Steps.{fixedSize, isString, textSteps, valueSteps}
 
 -- no type has more than 20 fixed bytes
 pub fixedSize-le : (t : ℕ) → fixedSize t ≤ 20
@@ -93,11 +93,11 @@ fixedSize-of : (fixedSize 3 ≡ 0) × (fixedSize 8 ≡ 0) × (fixedSize 6 ≡ 16
 unfolding fixedSize listed
 fixedSize-of = (refl, refl, refl)
 
-pub value-short : (t : ℕ) (v : List ℕ) → length v < fixedSize t → valueSteps t v ≡ refused 32
+pub value-short : (t : ℕ) (v : List ℕ) → length v < fixedSize t → valueSteps t v ≡ 32
 unfolding valueSteps listed
 value-short t v h = go (eqb t 3) (eqb t 8) (eqb t 6) refl refl refl
   where
-    go : (a b c : Bool) → eqb t 3 ≡ a → eqb t 8 ≡ b → eqb t 6 ≡ c → valueSteps t v ≡ refused 32
+    go : (a b c : Bool) → eqb t 3 ≡ a → eqb t 8 ≡ b → eqb t 6 ≡ c → valueSteps t v ≡ 32
     go true b c e f g = absurd (omega (arith, ap fixedSize (eqb-true t 3 e), fixedSize-of .0))
     go false true c e f g = absurd (omega (arith, ap fixedSize (eqb-true t 8 f), fixedSize-of .1))
     go false false true e f g =

@@ -1,69 +1,60 @@
--- `queues::read::read_image` meets its contract: the code makes the definition's tests in its order. Assumes nothing.
+-- The number of the first step that fails, or the image that passed them.
+use Prim.Native.Nat.{ℕ, _+_, _-_}
 use denote.Ref.{now}
-use mathlib.Core.Path.{ap, _∙_}
+use mathlib.Core.Path.{_≡_, sym, ap, _∙_}
+use mathlib.Core.List.{List}
 use native.Mathlib.Omega.{arith}
-use borrow.Author.Tests.{le-ltb, lt-ltb}
 use borrow.Author.Needs.{needs}
-use lib.ListN.{drop}
+use borrow.Author.Tests.{ne-eqb}
+use lib.ListN.{length}
+use Rattle.octets.proofs.Laws.Steps.{the}
+use Rattle.queues.specs.Read.{formatOf, imageFrom, imageOf, partAt, readImage}
+use Rattle.queues.specs.Steps.{fixedSize}
 use Rattle.queues.specs.declared.format.QueueFormat.{QueueFormat}
-use Rattle.queues.specs.Read.{readImage, afterSteps, formatOf}
-use Rattle.queues.specs.Steps.{andThen, valueSteps}
+use Rattle.queues.specs.declared.image.ImageRead.the-variants.{Accepted, Refused}
+use Rattle.queues.proofs.Laws.Read.{readable, readable-accepted, readable-fits, Readable}
 use Rattle.queues.proofs.read.read_image.Statement.{statement}
 use Rattle.queues.proofs.read.read_image.Tie as tie
 
-refusal-of-requires : tie.Need-refusal-of-requires
-refusal-of-requires c κs = search needs
+entry : tie.After-image-steps → List ℕ
+entry c = now (the tie.Start (search) .args .s)
+
+passes : (c : tie.Else1) → Readable (entry (c .before))
+unfolding entry
+passes c = readable (entry (c .before)) (sym (c .before .image-steps .ensures) ∙ c .if1 .left)
+
+size-told : (c : tie.After-fixed-size) → c .fixed-size .result .0 ≡ fixedSize (formatOf (entry (c .before .before .before)) .kind)
+unfolding entry
+size-told c = c .fixed-size .ensures ∙ ap (λ (f : QueueFormat). fixedSize (f .kind)) (the tie.After-format-of (search) .format-of .ensures)
 
 returns : tie.Need-returns
-unfolding readImage andThen afterSteps formatOf
-returns c = simp (lt-ltb _ _ (c .before .if1 .taken), ← c .refusal-of .ensures)
-
-shared-slice-read-new : tie.Need-shared-slice-read-new
-shared-slice-read-new c = search needs
-
-shared-slice-read-new-2 : tie.Need-shared-slice-read-new-2
-shared-slice-read-new-2 c = search needs
-
-new-requires : tie.Need-new-requires
-new-requires c κs = search needs
-
-format-steps-requires : tie.Need-format-steps-requires
-format-steps-requires c κs = search needs
-
-enum-known-r : tie.Need-enum-known-r
-enum-known-r c = search needs
-
-enum-told : tie.Need-enum-told
-enum-told c = search needs
-
-read-value-requires : tie.Need-read-value-requires
-unfolding formatOf
-read-value-requires c κs = (c .before .before .before .new .ensures, omega arith)
+unfolding readImage
+returns c =
+    let n = the tie.After-image-steps (search) .image-steps .ensures in
+    rw (← n, ne-eqb _ 0 (the tie.Then1 (search) .if1 .taken)) (ap Refused (c .refusal-of .ensures))
 
 returns-2 : tie.Need-returns-2
-unfolding readImage andThen afterSteps formatOf
-returns-2 c = simp (le-ltb _ _ (c .before .before .before .before .before .before .before .if1 .left), ← c .before .before .before .before .new .ensures, ← c .before .before .before .format-steps .ensures, c .before .r .given .1)
-
-returns-3 : tie.Need-returns-3
-unfolding readImage andThen afterSteps formatOf
-returns-3 c =
-    let a = c .before .before .before .before .before .before .before .before .before .args in
-    simp (le-ltb _ _ (c .before .before .before .before .before .before .before .if1 .left), ← c .before .before .before .before .new .ensures, ← c .before .before .before .format-steps .ensures, c .before .enum-told .given .1)
-    (c .read-value .ensures
-    ∙ ap (λ (f : QueueFormat). afterSteps (now (a .s)) (valueSteps (f .kind) (drop 4 (now (a .s))))) (c .before .before .before .before .new .ensures))
+unfolding entry imageOf imageFrom
+returns-2 c =
+    let s = entry (search) in
+    let size = size-told (search) in
+    let format = the tie.After-format-of (search) .format-of .ensures in
+    let fixed = the tie.After-part-at (search) .part-at .ensures ∙ ap (partAt 4) size in
+    let text = c .part-at2 .ensures ∙ ap (λ (n : ℕ). partAt (4 + n) (length s - (4 + n))) size in
+    (λ i. Accepted (record { format = format i; fixed = fixed i; text = text i })) ∙ sym (readable-accepted s (passes (search)))
 
 pub read-image-spec : {M : Type 1} → statement M
+unfolding entry
 read-image-spec =
     tie.close
     (tie.spec
-    refusal-of-requires
+    (λ c κs. search needs)
+    (λ c κs. search needs)
     returns
-    shared-slice-read-new
-    shared-slice-read-new-2
-    new-requires
-    format-steps-requires
-    enum-known-r
-    enum-told
-    read-value-requires
-    returns-2
-    returns-3)
+    (λ c κs. search needs)
+    (λ c κs. search needs)
+    (λ c. omega (arith, size-told (search), readable-fits (entry (search)) (passes (search))))
+    (λ c κs. search needs)
+    (λ c. omega (arith, size-told (search), readable-fits (entry (search)) (passes (search))))
+    (λ c κs. search needs)
+    returns-2)

@@ -1,40 +1,20 @@
--- `queues::steps::is_string` meets its contract: the length decides as the number of units does. Assumes nothing.
+-- The length decides as the number of units does.
 use denote.Ref.{now}
 use mathlib.Core.Path.{sym, _∙_}
 use native.Mathlib.Omega.{arith}
 use borrow.Author.Needs.{needs}
+use Rattle.octets.proofs.Laws.Steps.{the}
 use Rattle.queues.proofs.Laws.Steps.{few-units, many-units, some-units}
 use Rattle.queues.proofs.steps.is_string.Statement.{statement}
 use Rattle.queues.proofs.steps.is_string.Tie as tie
 
-bytes-requires : tie.Need-bytes-requires
-bytes-requires c κs = search needs
-
-returns : tie.Need-returns
-returns c =
-    let a = c .before .before .before .before .args in
-    sym (few-units (a .least .0) (now (a .text)) (omega (arith, c .before .before .bytes .ensures)))
-
-bytes-requires-2 : tie.Need-bytes-requires-2
-bytes-requires-2 c κs = search needs
-
-returns-2 : tie.Need-returns-2
-returns-2 c =
-    let a = c .before .before .before .before .before .before .before .args in
-    sym (many-units (a .least .0) (now (a .text)) (omega (arith, c .before .before .bytes2 .ensures)))
-
-is-text-requires : tie.Need-is-text-requires
-is-text-requires c κs = search needs
-
-returns-3 : tie.Need-returns-3
-returns-3 c =
-    let a = c .before .before .before .before .before .before .before .before .args in
-    c .is-text .ensures
-    ∙ sym (some-units (a .least .0) (now (a .text))
-    (omega (arith, c .before .before .before .before .before .before .bytes .ensures))
-    (omega (arith, c .before .before .before .bytes2 .ensures)))
-
 pub is-string-spec : {M : Type 1} → statement M
 is-string-spec =
     tie.close
-    (tie.spec bytes-requires returns bytes-requires-2 returns-2 is-text-requires returns-3)
+    (tie.spec
+    (λ c κs. search needs)
+    (λ c. let a = the tie.Start (search) .args in sym (few-units (a .least .0) (now (a .text)) (omega arith)))
+    (λ c κs. search needs)
+    (λ c. let a = the tie.Start (search) .args in sym (many-units (a .least .0) (now (a .text)) (omega arith)))
+    (λ c κs. search needs)
+    (λ c. let a = the tie.Start (search) .args in c .is-text .ensures ∙ sym (some-units (a .least .0) (now (a .text)) (omega arith) (omega arith))))

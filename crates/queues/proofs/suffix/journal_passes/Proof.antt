@@ -1,28 +1,16 @@
 -- The code makes the tests of its row of `pairPasses`.
-use borrow.Author.Tests.{eq-eqb, ne-eqb}
+use Rattle.octets.proofs.Laws.Steps.{steps}
 use Rattle.rules.specs.Listed.{listed}
 use Rattle.queues.proofs.suffix.journal_passes.Statement.{statement}
 use Rattle.queues.proofs.suffix.journal_passes.Tie as tie
 
-returns : tie.Need-returns
-unfolding listed
-returns c = simp (ne-eqb _ _ (c .if1 .taken))
-
-returns-2 : tie.Need-returns-2
-unfolding listed
-returns-2 c = simp (eq-eqb _ _ (c .before .if1 .left), eq-eqb _ _ (c .if2 .taken))
-
-returns-3 : tie.Need-returns-3
-unfolding listed
-returns-3 c = simp (eq-eqb _ _ (c .before .before .if1 .left), ne-eqb _ _ (c .before .if2 .left), eq-eqb _ _ (c .if3 .taken))
-
-returns-4 : tie.Need-returns-4
-unfolding listed
-returns-4 c = simp (eq-eqb _ _ (c .before .before .before .if1 .left), ne-eqb _ _ (c .before .before .if2 .left), ne-eqb _ _ (c .before .if3 .left), eq-eqb _ _ (c .if4 .taken))
-
-returns-5 : tie.Need-returns-5
-unfolding listed
-returns-5 c = simp (eq-eqb _ _ (c .before .before .before .if1 .left), ne-eqb _ _ (c .before .before .if2 .left), ne-eqb _ _ (c .before .if3 .left), ne-eqb _ _ (c .if4 .left))
-
 pub journal-passes-spec : {M : Type 1} → statement M
-journal-passes-spec = tie.close (tie.spec returns returns-2 returns-3 returns-4 returns-5)
+unfolding listed
+journal-passes-spec =
+    tie.close
+    (tie.spec
+    (λ c. search steps depth 20)
+    (λ c. search steps depth 20)
+    (λ c. search steps depth 20)
+    (λ c. search steps depth 20)
+    (λ c. search steps depth 20))

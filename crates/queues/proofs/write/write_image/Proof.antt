@@ -1,84 +1,74 @@
--- `queues::write::write_image` meets its contract: the code makes the definition's tests in its order. Assumes nothing.
+-- The three ends of a writer: refused by its steps, 13, and written.
 use Prim.Native.Nat.{ℕ}
 use denote.Ref.{now}
 use mathlib.Core.Path.{_≡_, sym, ap, _∙_}
-use mathlib.Core.List.{_++_}
+use mathlib.Core.List.{List, _++_}
 use native.Mathlib.Omega.{arith}
-use borrow.Author.Tests.{le-ltb, lt-ltb}
 use borrow.Author.Needs.{needs}
-use lib.ListN.{length}
-use Rattle.rules.specs.Refusal.{bytes}
-use Rattle.rules.specs.declared.refusal.Checked.the-variants.{Passed}
-use Rattle.queues.specs.Write.{answerAfter, bytesAfter, imageBytes, writeAnswer, writeBytes, writeSteps}
+use Rattle.octets.proofs.Laws.Steps.{the}
+use Rattle.rules.proofs.Laws.Output.{ends-refused, ends-short, ends-written}
+use Rattle.rules.specs.Refusal.{bytes, refusal}
 use Rattle.rules.specs.declared.section.Output.the-variants.{Written, Refused}
+use Rattle.queues.specs.Write.{imageBytes, writeAnswer, writeBytes, writeSteps}
 use Rattle.queues.proofs.Laws.Write.{length-image, passing}
 use Rattle.queues.proofs.write.write_image.Statement.{statement}
 use Rattle.queues.proofs.write.write_image.Tie as tie
 
-write-steps-requires : tie.Need-write-steps-requires
-write-steps-requires c κs = search needs
+number : tie.Start → ℕ
+number c = writeSteps (c .args .format) (now (c .args .fixed)) (now (c .args .text))
 
-enum-known-r : tie.Need-enum-known-r
-enum-known-r c = search needs
+image : tie.Start → List ℕ
+image c = imageBytes (c .args .format) (now (c .args .fixed) ++ now (c .args .text))
 
-enum-told : tie.Need-enum-told
-enum-told c = search needs
+start : tie.Else1 → tie.Start
+start c = search
 
-add-length : tie.Need-add-length
-add-length c = search needs
-
-add-length-2 : tie.Need-add-length-2
-add-length-2 c =
-    let a = c .before .before .before .before .before .before .args in
-    let p = passing (a .format) (now (a .fixed)) (now (a .text)) (sym (c .before .before .write-steps .ensures) ∙ c .enum-told .given .1) in
-    omega arith
-
-refusal-of-requires : tie.Need-refusal-of-requires
-refusal-of-requires c κs = search needs
+passed : (c : tie.Else1) → number (start c) ≡ 0
+unfolding number start
+passed c = sym (the tie.After-write-steps (search) .write-steps .ensures) ∙ c .if1 .left
 
 returns : tie.Need-returns
-unfolding writeAnswer writeBytes answerAfter bytesAfter
+unfolding number image writeAnswer writeBytes
 returns c =
-    let a = c .before .before .before .before .before .before .before .before .args in
-    let n = length-image (a .format) (now (a .fixed)) (now (a .text)) in
-    let e : writeSteps (a .format) (now (a .fixed)) (now (a .text)) ≡ Passed = sym (c .before .before .before .before .write-steps .ensures) ∙ c .before .before .enum-told .given .1 in
-    let short = lt-ltb (length (now (a .out))) (length (imageBytes (a .format) (now (a .fixed) ++ now (a .text)))) (omega arith) in
-    (rw (e, short) (ap Refused (c .refusal-of .ensures)), rw (e, short))
+    let s = the tie.Start (search) in
+    let n = the tie.After-write-steps (search) .write-steps .ensures in
+    let end = ends-refused (refusal (number s) 0) (image s) (now (s .args .out)) (λ e. the tie.Then1 (search) .if1 .taken (n ∙ e)) in
+    (ap Refused (c .refusal-of .ensures ∙ ap (λ (k : ℕ). refusal k 0) n) ∙ end .0, end .1)
 
-put-image-requires : tie.Need-put-image-requires
-put-image-requires c κs = search needs
+add-length-2 : tie.Need-add-length-2
+unfolding number start
+add-length-2 c =
+    let a = the tie.Start (search) .args in
+    let p = passing (a .format) (now (a .fixed)) (now (a .text)) (passed (search)) in
+    omega arith
 
 returns-2 : tie.Need-returns-2
-unfolding writeAnswer writeBytes answerAfter bytesAfter
+unfolding number start image writeAnswer writeBytes
 returns-2 c =
-    let e = sym (c .before .before .before .write-steps .ensures) ∙ c .before .r .given .1 in
-    (rw e, rw e)
-
-same-length : tie.Need-same-length
-same-length c = search needs
+    let s = the tie.Start (search) in
+    let l = length-image (s .args .format) (now (s .args .fixed)) (now (s .args .text)) in
+    let end = ends-short (refusal (number s) 0) (image s) (now (s .args .out)) (passed (search)) (omega arith) in
+    (ap Refused (c .refusal-of2 .ensures) ∙ end .0, end .1)
 
 returns-3 : tie.Need-returns-3
-unfolding writeAnswer writeBytes answerAfter bytesAfter
+unfolding number start image writeAnswer writeBytes
 returns-3 c =
-    let read = c .before .before .before .before .before .before .before in
-    let a = read .before .before .before .before .args in
-    let n = length-image (a .format) (now (a .fixed)) (now (a .text)) in
-    let e : writeSteps (a .format) (now (a .fixed)) (now (a .text)) ≡ Passed = sym (read .write-steps .ensures) ∙ c .before .before .before .before .before .enum-told .given .1 in
-    let room = le-ltb (length (now (a .out))) (length (imageBytes (a .format) (now (a .fixed) ++ now (a .text)))) (omega arith) in
-    (rw (e, room) (ap (λ (k : ℕ). Written (bytes k)) (sym n)), rw (e, room) (c .before .before .put-image .ensures))
+    let s = the tie.Start (search) in
+    let l = length-image (s .args .format) (now (s .args .fixed)) (now (s .args .text)) in
+    let end = ends-written (refusal (number s) 0) (image s) (now (s .args .out)) (passed (search)) (omega arith) in
+    (ap (λ (k : ℕ). Written (bytes k)) (sym l) ∙ end .0, the tie.After-put-image (search) .put-image .ensures ∙ end .1)
 
 pub write-image-spec : {M : Type 1} → statement M
 write-image-spec =
     tie.close
     (tie.spec
-    write-steps-requires
-    enum-known-r
-    enum-told
-    add-length
-    add-length-2
-    refusal-of-requires
+    (λ c κs. search needs)
+    (λ c κs. search needs)
     returns
-    put-image-requires
+    (λ c. search needs)
+    add-length-2
+    (λ c κs. search needs)
     returns-2
-    same-length
+    (λ c κs. search needs)
+    (λ c. search needs)
     returns-3)

@@ -6,7 +6,6 @@ use crate::zero::no_refusal;
 use queues::format::QueueFormat;
 use queues::image::Image;
 use queues::image::ImageRead;
-use queues::image::Value;
 use queues::read::read_image;
 use queues::write::write_image;
 use rules::refusal::Refusal;
@@ -15,42 +14,14 @@ ghost use mathlib.Core.Path.{_≡_};
 ghost use Rattle.queues.specs.Read.{readImage};
 ghost use Rattle.queues.specs.Write.{writeAnswer, writeBytes};
 ghost use Rattle.cface.specs.Output.{outputAnswer};
-ghost use Rattle.cface.specs.Queue.{fixedPart, imageAnswer, textPart};
+ghost use Rattle.cface.specs.Queue.{imageAnswer};
 
-// The value as the writer takes it: its fixed bytes (GUID, OBJECTID or MULTICAST_ID) and its string, each empty at 0
-// where the type has none.
 #[repr(C)]
 pub struct UgbImageRead {
     pub refusal: Refusal,
     pub format: QueueFormat,
     pub fixed: Part,
     pub text: Part,
-}
-
-fn fixed_part(value: Value) -> Part
-    ensures { λ r. ⌜ r ≡ fixedPart value ⌝ }
-{
-    match value {
-        Value::Nothing => no_part(),
-        Value::Guid(p) => p,
-        Value::ObjectId(p) => p,
-        Value::MulticastId(p) => p,
-        Value::Text(_) => no_part(),
-        Value::GuidAndText(p, _) => p,
-    }
-}
-
-fn text_part(value: Value) -> Part
-    ensures { λ r. ⌜ r ≡ textPart value ⌝ }
-{
-    match value {
-        Value::Nothing => no_part(),
-        Value::Guid(_) => no_part(),
-        Value::ObjectId(_) => no_part(),
-        Value::MulticastId(_) => no_part(),
-        Value::Text(p) => p,
-        Value::GuidAndText(_, p) => p,
-    }
 }
 
 #[no_mangle]
@@ -68,12 +39,13 @@ pub extern "C" fn ugb_read_image(s: &[u8]) -> UgbImageRead
         }
         ImageRead::Accepted(image) => {
             let format = image.format;
-            let value = image.value;
+            let fixed = image.fixed;
+            let text = image.text;
             return UgbImageRead {
                 refusal: no_refusal(),
                 format,
-                fixed: fixed_part(value),
-                text: text_part(value),
+                fixed,
+                text,
             };
         }
     }

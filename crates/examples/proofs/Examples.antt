@@ -15,8 +15,8 @@ use Rattle.rules.specs.Summary.{noSecurity, summaryOf}
 use Rattle.writing.specs.Given.{propertiesFrom}
 use Rattle.writing.specs.Writing.{paddedPart, propertiesBytes, propertiesFixed, sectionBytes}
 use Rattle.queues.specs.Format.{flags, pairPasses, suffix}
-use Rattle.queues.specs.Read.{afterSteps, formatOf, readImage}
-use Rattle.queues.specs.Steps.{andThen, fixedSize, formatSteps, isString, stringStep, valueSteps}
+use Rattle.queues.specs.Read.{formatOf, imageFrom, imageOf, imageSteps, partAt, readImage}
+use Rattle.queues.specs.Steps.{fixedSize, formatSteps, isString, stringStep, valueSteps}
 use Rattle.requests.specs.Defaults.{allocationOr, beforeZero, bodyOr, correlationOr, encryption, propertiesOf, senderOf, signatureCount, signatureOf, titleOf}
 use Rattle.requests.specs.Request.{isGiven, valueOr}
 use Rattle.requests.specs.Section.{labelWith, packetPrivacy, propertiesAt, propertiesFieldsOf, providerInfo, sectionLength, securityFieldsOf, securityFirst, securityFlags}
@@ -32,7 +32,7 @@ unfolding le toLe padded padding within isText lastOnly unitBytes units classes 
     firstOf fieldBytes rowBytes allEmpty certAt identityHead identitySize keyAt providerAt providerSize providerText
     readSecurity securityContents securityFields securityLength securityParts securitySteps signatureAt noSecurity
     summaryOf propertiesFrom paddedPart propertiesBytes propertiesFixed sectionBytes flags pairPasses suffix
-    afterSteps formatOf readImage andThen fixedSize formatSteps isString stringStep valueSteps allocationOr beforeZero
+    formatOf imageFrom imageOf imageSteps partAt readImage fixedSize formatSteps isString stringStep valueSteps allocationOr beforeZero
     bodyOr correlationOr encryption propertiesOf senderOf signatureCount signatureOf titleOf isGiven valueOr labelWith
     packetPrivacy propertiesAt propertiesFieldsOf providerInfo sectionLength securityFieldsOf securityFirst
     securityFlags algorithmMissing allocationFails answerOf defaulted directPrivacy firstFailure hashMissing

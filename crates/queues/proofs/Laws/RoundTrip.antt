@@ -13,7 +13,7 @@ use Rattle.octets.specs.Part.{within}
 use Rattle.octets.specs.Text.{units}
 use Rattle.octets.proofs.Laws.Part.{rest-drop, within-in, within-none}
 use Rattle.rules.proofs.Laws.Accepted.{first-next}
-use Rattle.rules.proofs.Laws.Output.{ends-written, has-written}
+use Rattle.rules.proofs.Laws.Output.{has-written}
 use Rattle.rules.specs.Output.{writerOutput}
 use Rattle.rules.specs.Properties.{labelText}
 use Rattle.rules.specs.Refusal.{bytes, refusal}
@@ -27,7 +27,7 @@ use Rattle.queues.specs.declared.format.QueueFormat.{QueueFormat}
 use Rattle.queues.specs.declared.image.Image.{Image}
 use Rattle.queues.specs.declared.image.ImageRead.the-variants.{Accepted}
 use Rattle.queues.proofs.Laws.Read.{accepted-readable, readable-accepted, readable-fits, Readable}
-use Rattle.queues.proofs.Laws.Write.{length-image, passing, Passing}
+use Rattle.queues.proofs.Laws.Write.{has-room, length-image, passing, Passing}
 
 -- the bytes of a part of the value
 partAt-within : (s : List ℕ) (at n : ℕ) → partOf s (partAt at n) ≡ within s at n
@@ -112,15 +112,15 @@ module _ (s : List ℕ) (r : Readable s) where
   bytes-again = rw (fixed-again, text-again, take-append-drop) (image-again s (r .long))
 
 read-writes : (s : List ℕ) (i : Image) (out : List ℕ) → readImage s ≡ Accepted i → length s ≤ length out → WritesBack s i out
-unfolding imageOf imageFrom writeAnswer writeBytes
+unfolding imageOf imageFrom
 read-writes s i out e h =
     let a = accepted-readable s i e in
     let f = formatOf s in
     let fixed : List ℕ = partOf s (imageOf s .fixed) in
     let text : List ℕ = partOf s (imageOf s .text) in
     let same = bytes-again s (a .0) in
-    let size = ap length same ∙ length-reservedZero s (a .0 .long) in
-    let w = ends-written (refusal (writeSteps f fixed text) 0) (imageBytes f (fixed ++ text)) out (steps-again s (a .0)) (omega (arith, size)) in
+    let size : 4 + length fixed + length text ≡ length s = sym (length-image f fixed text) ∙ ap length same ∙ length-reservedZero s (a .0 .long) in
+    let w = has-room f fixed text out (over (imageBytes f (fixed ++ text)) out) (steps-again s (a .0)) (omega arith) refl in
     subst (λ (j : Image). WritesBack s j out) (a .1)
     (record {
       answer = sym (w .0) ∙ ap (λ (n : ℕ). Written (bytes n)) size;

@@ -1,6 +1,6 @@
 -- What the writer's steps promise, and an image's length and first bytes.
 use Prim.Native.Nat.{ℕ, _+_, _≤_, _<_}
-use mathlib.Core.Path.{_≡_, refl, sym, _∙_}
+use mathlib.Core.Path.{_≡_, refl, sym, ap, _∙_}
 use mathlib.Core.Bool.{Bool, true, false, not}
 use mathlib.Core.List.{List, [], _∷_, _++_}
 use native.Mathlib.Omega.{arith}
@@ -9,9 +9,12 @@ use lib.ListN.{length, set, length-append}
 use lib.Dec.{eqb, ltb}
 use Rattle.octets.specs.Over.{over}
 use Rattle.rules.proofs.Laws.Accepted.{first-passed, passed}
+use Rattle.rules.proofs.Laws.Output.{ends-written}
 use Rattle.rules.specs.Listed.{listed}
+use Rattle.rules.specs.Refusal.{bytes, refusal}
+use Rattle.rules.specs.declared.section.Output.the-variants.{Written}
 use Rattle.queues.specs.Steps.{fixedSize, formatSteps, stringStep, textSteps, valueSteps}
-use Rattle.queues.specs.Write.{imageBytes, writeSteps}
+use Rattle.queues.specs.Write.{imageBytes, writeAnswer, writeBytes, writeSteps}
 use Rattle.queues.specs.declared.format.QueueFormat.{QueueFormat}
 use Rattle.queues.proofs.Laws.Steps.{fixedSize-le, many-units, value-split}
 
@@ -65,3 +68,13 @@ head-over f (a ∷ b ∷ c ∷ d ∷ rest) h = refl
 pub length-image : (f : QueueFormat) (fixed text : List ℕ) → length (imageBytes f (fixed ++ text)) ≡ 4 + length fixed + length text
 unfolding imageBytes
 length-image f fixed text = omega (arith, length-append fixed text)
+
+-- a writer whose steps passed and that has room has written
+pub has-room : (f : QueueFormat) (fixed text out later : List ℕ) → writeSteps f fixed text ≡ 0
+    → 4 + length fixed + length text ≤ length out → later ≡ over (imageBytes f (fixed ++ text)) out
+    → (Written (bytes (4 + length fixed + length text)) ≡ writeAnswer f fixed text out) × (later ≡ writeBytes f fixed text out)
+unfolding writeAnswer writeBytes
+has-room f fixed text out later none room w =
+    let l = length-image f fixed text in
+    let end = ends-written (refusal (writeSteps f fixed text) 0) (imageBytes f (fixed ++ text)) out none (omega arith) in
+    (ap (λ (n : ℕ). Written (bytes n)) (sym l) ∙ end .0, w ∙ end .1)

@@ -30,15 +30,9 @@ enum-known-image c = search needs
 no-refusal-requires : tie.Need-no-refusal-requires
 no-refusal-requires c κs = search needs
 
-fixed-part-requires : tie.Need-fixed-part-requires
-fixed-part-requires c κs = search needs
-
-text-part-requires : tie.Need-text-part-requires
-text-part-requires c κs = search needs
-
 returns-2 : tie.Need-returns-2
 unfolding imageAnswer
-returns-2 c = simp (← c .before .before .before .before .before .before .before .read-image .ensures, c .before .before .before .before .before .image .given .1, c .before .before .no-refusal .ensures, c .before .fixed-part .ensures, c .text-part .ensures)
+returns-2 c = simp (← c .before .before .before .before .before .before .before .read-image .ensures, c .before .before .before .before .before .image .given .1, c .no-refusal .ensures)
 
 pub ugb-read-image-spec : {M : Type 1} → statement M
 ugb-read-image-spec =
@@ -52,6 +46,4 @@ ugb-read-image-spec =
     returns
     enum-known-image
     no-refusal-requires
-    fixed-part-requires
-    text-part-requires
     returns-2)

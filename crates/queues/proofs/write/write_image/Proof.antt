@@ -6,11 +6,11 @@ use mathlib.Core.List.{List, _++_}
 use native.Mathlib.Omega.{arith}
 use borrow.Author.Needs.{needs}
 use Rattle.octets.proofs.Laws.Steps.{the}
-use Rattle.rules.proofs.Laws.Output.{ends-refused, ends-short, ends-written}
-use Rattle.rules.specs.Refusal.{bytes, refusal}
-use Rattle.rules.specs.declared.section.Output.the-variants.{Written, Refused}
+use Rattle.rules.proofs.Laws.Output.{ends-refused, ends-short}
+use Rattle.rules.specs.Refusal.{refusal}
+use Rattle.rules.specs.declared.section.Output.the-variants.{Refused}
 use Rattle.queues.specs.Write.{imageBytes, writeAnswer, writeBytes, writeSteps}
-use Rattle.queues.proofs.Laws.Write.{length-image, passing}
+use Rattle.queues.proofs.Laws.Write.{has-room, length-image, passing}
 use Rattle.queues.proofs.write.write_image.Statement.{statement}
 use Rattle.queues.proofs.write.write_image.Tie as tie
 
@@ -51,12 +51,10 @@ returns-2 c =
     (ap Refused (c .refusal-of2 .ensures) ∙ end .0, end .1)
 
 returns-3 : tie.Need-returns-3
-unfolding number start image writeAnswer writeBytes
+unfolding number start
 returns-3 c =
-    let s = the tie.Start (search) in
-    let l = length-image (s .args .format) (now (s .args .fixed)) (now (s .args .text)) in
-    let end = ends-written (refusal (number s) 0) (image s) (now (s .args .out)) (passed (search)) (omega arith) in
-    (ap (λ (k : ℕ). Written (bytes k)) (sym l) ∙ end .0, the tie.After-put-image (search) .put-image .ensures ∙ end .1)
+    let a = the tie.Start (search) .args in
+    has-room (a .format) (now (a .fixed)) (now (a .text)) (now (a .out)) _ (passed (search)) (omega arith) (the tie.After-put-image (search) .put-image .ensures)
 
 pub write-image-spec : {M : Type 1} → statement M
 write-image-spec =

@@ -3,7 +3,7 @@
  * and a MessagePropertiesHeader), and the queue formats around it. "01" is the paper of exact rules that every function
  * is proved to follow, on every input.
  *
- * Link target/staticlib/libcface.a, which `rt staticlib cface` writes (x86-64 Linux); it needs memcpy and memset, and
+ * Link target/staticlib/libugbariteyo.a, which `rt staticlib ugbariteyo` writes (x86-64 Linux); it needs memcpy and memset, and
  * nothing else.
  *
  * Every call answers, for every input, and ends. Nothing has to be checked beforehand but the pointers: each one is

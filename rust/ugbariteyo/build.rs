@@ -1,5 +1,5 @@
-//! Links the proved library, `libcface.a`: from the directory in `UGBARITEYO_LIB_DIR`, else from the
-//! repository's `target/staticlib`, where `rt staticlib cface` writes it. That command is run where the
+//! Links the proved library, `libugbariteyo.a`: from the directory in `UGBARITEYO_LIB_DIR`, else from the
+//! repository's `target/staticlib`, where `rt staticlib ugbariteyo` writes it. That command is run where the
 //! archive is not there yet.
 
 use std::env;
@@ -7,7 +7,7 @@ use std::io::ErrorKind;
 use std::path::{Path, PathBuf};
 use std::process::{exit, Command};
 
-const ARCHIVE: &str = "libcface.a";
+const ARCHIVE: &str = "libugbariteyo.a";
 const LIB_DIR: &str = "UGBARITEYO_LIB_DIR";
 
 fn main() {
@@ -16,7 +16,7 @@ fn main() {
         Ok(dir) => {
             println!("cargo:rerun-if-changed={}", dir.join(ARCHIVE).display());
             println!("cargo:rustc-link-search=native={}", dir.display());
-            println!("cargo:rustc-link-lib=static=cface");
+            println!("cargo:rustc-link-lib=static=ugbariteyo");
         }
         Err(why) => {
             eprintln!("ugbariteyo: {why}");
@@ -51,16 +51,16 @@ fn library_dir() -> Result<PathBuf, String> {
 /// Proves the library and writes the archive.
 fn build_library(root: &Path) -> Result<(), String> {
     let advice =
-        format!("run `rt staticlib cface` in the repository, or set {LIB_DIR} to where {ARCHIVE} lies");
-    if !root.join("crates/cface").is_dir() {
+        format!("run `rt staticlib ugbariteyo` in the repository, or set {LIB_DIR} to where {ARCHIVE} lies");
+    if !root.join("crates/ugbariteyo").is_dir() {
         return Err(format!(
             "this crate does not lie in its repository: set {LIB_DIR} to where {ARCHIVE} lies"
         ));
     }
-    match Command::new("rt").args(["staticlib", "cface"]).current_dir(root).output() {
+    match Command::new("rt").args(["staticlib", "ugbariteyo"]).current_dir(root).output() {
         Ok(run) if run.status.success() => Ok(()),
         Ok(run) => Err(format!(
-            "`rt staticlib cface` failed ({}):\n{}{}",
+            "`rt staticlib ugbariteyo` failed ({}):\n{}{}",
             run.status,
             String::from_utf8_lossy(&run.stdout),
             String::from_utf8_lossy(&run.stderr)

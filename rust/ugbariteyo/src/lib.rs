@@ -48,9 +48,9 @@
 //!
 //! # Building
 //!
-//! The proved library is `libcface.a`, for x86-64 Linux. `build.rs` links it from the directory in the variable
+//! The proved library is `libugbariteyo.a`, for x86-64 Linux. `build.rs` links it from the directory in the variable
 //! `UGBARITEYO_LIB_DIR`, else from the repository's `target/staticlib`; where it is not there yet, it is made
-//! with `rt staticlib cface`. An archive that is there is taken as it is: after a change of the proved crates,
+//! with `rt staticlib ugbariteyo`. An archive that is there is taken as it is: after a change of the proved crates,
 //! run that command again.
 
 #![deny(missing_docs)]

@@ -1,0 +1,16 @@
+-- The answer is handed on.
+use mathlib.Core.Path.{ap, _∙_}
+use borrow.Author.Needs.{needs}
+use Rattle.octets.proofs.Laws.Steps.{the}
+use Rattle.ugbariteyo.specs.Output.{outputAnswer}
+use Rattle.ugbariteyo.proofs.queue.ugb_write_image.Statement.{statement}
+use Rattle.ugbariteyo.proofs.queue.ugb_write_image.Tie as tie
+
+pub ugb-write-image-spec : {M : Type 1} → statement M
+ugb-write-image-spec =
+    tie.close
+    (tie.spec
+    (λ c κs. search needs)
+    (λ c κs. search needs)
+    (λ c. search needs)
+    (λ c. let w = the tie.After-write-image (search) .write-image in (c .output-answer .ensures ∙ ap outputAnswer (w .ensures .0), w .ensures .1)))

@@ -1,0 +1,12 @@
+-- All numbers are 0.
+use mathlib.Core.Path.{refl}
+use Rattle.ugbariteyo.specs.Zero.{noProperties}
+use Rattle.ugbariteyo.proofs.zero.no_properties.Statement.{statement}
+use Rattle.ugbariteyo.proofs.zero.no_properties.Tie as tie
+
+returns : tie.Need-returns
+unfolding noProperties
+returns c = refl
+
+pub no-properties-spec : {M : Type 1} → statement M
+no-properties-spec = tie.close (tie.spec returns)

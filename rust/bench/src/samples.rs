@@ -1,7 +1,9 @@
 //! The sections, the request and the queue format that are timed.
 
+use compare::library::first;
 use independent::request::Request;
 use independent::SectionValues;
+use ugbariteyo::First;
 
 /// Parts of a section, which own their bytes.
 #[derive(Clone, Default)]
@@ -74,6 +76,11 @@ impl Sample {
             ..Self::default()
         });
         [&labels[..], &names, &bodies, &extensions].concat()
+    }
+
+    /// Which header stands first.
+    pub fn first(&self) -> First {
+        first(self.security_first)
     }
 
     /// What the section writer takes.

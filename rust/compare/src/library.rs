@@ -44,25 +44,25 @@ impl Library {
 
 impl Side for Library {
     fn read<'a>(&self, input: &'a [u8], security_first: bool) -> Answer<Reading<'a>> {
-        library::read(input, security_first).map(|section| reading(&section)).map_err(refusal)
+        library::read(input, first(security_first)).map(|section| reading(&section)).map_err(refusal)
     }
     fn summarize<'a>(&self, input: &'a [u8], security_first: bool) -> Answer<Summary<'a>> {
-        library::summarize(input, security_first).map(summary).map_err(refusal)
+        library::summarize(input, first(security_first)).map(summary).map_err(refusal)
     }
     fn same_summary(&self, a: &[u8], b: &[u8], security_first: bool) -> bool {
-        library::same_summary(a, b, security_first)
+        library::same_summary(a, b, first(security_first))
     }
     fn label_shown<'a>(&self, input: &'a [u8], security_first: bool, stand_in: &'a [u8]) -> &'a [u8] {
-        library::label_shown(input, security_first, stand_in)
+        library::label_shown(input, first(security_first), stand_in)
     }
     fn support_copy(&self, input: &[u8], security_first: bool, out: &mut [u8]) -> Answer<usize> {
-        library::support_copy(input, security_first, out).map_err(refusal)
+        library::support_copy(input, first(security_first), out).map_err(refusal)
     }
     fn write_section(&self, values: &SectionValues<'_>, out: &mut [u8]) -> Answer<usize> {
         library::write_section(&section_values(values), out).map_err(refusal)
     }
     fn write_again(&self, input: &[u8], security_first: bool, out: &mut [u8]) -> Answer<usize> {
-        let section = library::read(input, security_first).map_err(refusal)?;
+        let section = library::read(input, first(security_first)).map_err(refusal)?;
         library::write_section(&library::SectionValues::from(&section), out).map_err(refusal)
     }
     fn read_image<'a>(&self, input: &'a [u8]) -> Answer<Image<'a>> {
@@ -70,7 +70,7 @@ impl Side for Library {
     }
     fn write_image(&self, format: [u8; 2], fixed: &[u8], text: &[u8], out: &mut [u8]) -> Answer<usize> {
         let format = library::QueueFormat { kind: format[0], suffix_and_flags: format[1] };
-        library::write_image(format, fixed, text, out).map_err(refusal)
+        library::write_image_parts(format, fixed, text, out).map_err(refusal)
     }
     fn defaulted<'a>(&self, values: &Request<'a>) -> Answer<Defaulted<'a>> {
         library::defaulted(&request(values)).map(defaulted).map_err(refusal)
@@ -114,6 +114,15 @@ fn unnamed(content: &[u8]) -> io::Result<File> {
     file.write_all(content)?;
     file.rewind()?;
     Ok(file)
+}
+
+/// Which header stands first.
+pub fn first(security_first: bool) -> library::First {
+    if security_first {
+        library::First::SecurityHeader
+    } else {
+        library::First::PropertiesHeader
+    }
 }
 
 fn refusal(refusal: library::Refusal) -> Refusal {
@@ -191,7 +200,7 @@ fn security<'a>(header: &library::Security<'a>, parts: &mut Parts) -> Security<'
 /// The values as the library takes them.
 pub fn section_values<'a>(values: &SectionValues<'a>) -> library::SectionValues<'a> {
     library::SectionValues {
-        security_first: values.security_first,
+        first: first(values.security_first),
         security_flags: library::SecurityFlags(values.security_flags),
         sender_id: values.sender_id,
         encryption_key: values.encryption_key,

@@ -8,6 +8,7 @@
 use std::mem::{offset_of, size_of};
 use std::ptr;
 
+use crate::section::First;
 use crate::{refusal, write};
 
 #[repr(C)]
@@ -84,7 +85,7 @@ pub(crate) struct PropertiesParts {
 #[repr(C)]
 #[derive(Clone, Copy)]
 pub(crate) struct Summary {
-    pub security_first: bool,
+    pub security_first: First,
     pub security: SecurityHeader,
     pub properties: PropertiesFields,
     pub parts: PropertiesParts,
@@ -98,12 +99,6 @@ pub(crate) struct Section {
     pub summary: Summary,
     pub correlation_id: Part,
     pub application_tag: u32,
-}
-
-#[repr(C)]
-pub(crate) struct Summarized {
-    pub refusal: Refusal,
-    pub summary: Summary,
 }
 
 #[repr(C)]
@@ -127,7 +122,7 @@ pub(crate) struct Output {
 
 #[repr(C)]
 pub(crate) struct SectionValues {
-    pub security_first: bool,
+    pub security_first: First,
     pub security_flags: u16,
     pub flags: u8,
     pub message_class: u16,
@@ -174,7 +169,7 @@ const _: () = {
     assert!(offset_of!(Summary, properties) == 152 && offset_of!(Summary, parts) == 208);
     assert!(offset_of!(Summary, authentication_fails) == 264);
     assert!(size_of::<Section>() == 296 && offset_of!(Section, application_tag) == 288);
-    assert!(size_of::<Summarized>() == 288 && size_of::<Reading>() == 312);
+    assert!(size_of::<Reading>() == 312);
     assert!(size_of::<Label>() == 24 && offset_of!(Label, part) == 8);
     assert!(size_of::<Output>() == 24);
     assert!(size_of::<SectionValues>() == 40);
@@ -190,31 +185,31 @@ macro_rules! numbers_first {
     ($($number:ident)*) => {
         const _: () = {
             assert!(size_of::<write::SectionValues>() >= size_of::<SectionValues>());
+            assert!(offset_of!(write::SectionValues, first) == offset_of!(SectionValues, security_first));
             $(assert!(offset_of!(write::SectionValues, $number) == offset_of!(SectionValues, $number));)*
         };
     };
 }
 
 numbers_first! {
-    security_first security_flags flags message_class body_type application_tag allocation_body_size
+    security_flags flags message_class body_type application_tag allocation_body_size
     privacy_level hash_algorithm encryption_algorithm
 }
 
 extern "C" {
-    fn ugb_summarize(s: *const u8, s_length: usize, security_first: bool) -> Summarized;
-    fn ugb_read(s: *const u8, s_length: usize, security_first: bool) -> Reading;
+    fn ugb_read(s: *const u8, s_length: usize, security_first: First) -> Reading;
     fn ugb_same_summary(
         a: *const u8,
         a_length: usize,
         b: *const u8,
         b_length: usize,
-        security_first: bool,
+        security_first: First,
     ) -> bool;
-    fn ugb_label_shown(s: *const u8, s_length: usize, security_first: bool) -> Label;
+    fn ugb_label_shown(s: *const u8, s_length: usize, security_first: First) -> Label;
     fn ugb_support_copy(
         s: *const u8,
         s_length: usize,
-        security_first: bool,
+        security_first: First,
         out: *mut u8,
         out_length: usize,
     ) -> Output;
@@ -268,33 +263,27 @@ pub(crate) fn written(output: Output) -> Result<usize, refusal::Refusal> {
 }
 
 #[inline]
-pub(crate) fn summarize(s: &[u8], security_first: bool) -> Summarized {
+pub(crate) fn read(s: &[u8], first: First) -> Reading {
     // SAFETY: pointer and length are those of a slice.
-    unsafe { ugb_summarize(s.as_ptr(), s.len(), security_first) }
+    unsafe { ugb_read(s.as_ptr(), s.len(), first) }
 }
 
 #[inline]
-pub(crate) fn read(s: &[u8], security_first: bool) -> Reading {
-    // SAFETY: pointer and length are those of a slice.
-    unsafe { ugb_read(s.as_ptr(), s.len(), security_first) }
-}
-
-#[inline]
-pub(crate) fn same_summary(a: &[u8], b: &[u8], security_first: bool) -> bool {
+pub(crate) fn same_summary(a: &[u8], b: &[u8], first: First) -> bool {
     // SAFETY: pointers and lengths are those of two slices.
-    unsafe { ugb_same_summary(a.as_ptr(), a.len(), b.as_ptr(), b.len(), security_first) }
+    unsafe { ugb_same_summary(a.as_ptr(), a.len(), b.as_ptr(), b.len(), first) }
 }
 
 #[inline]
-pub(crate) fn label_shown(s: &[u8], security_first: bool) -> Label {
+pub(crate) fn label_shown(s: &[u8], first: First) -> Label {
     // SAFETY: pointer and length are those of a slice.
-    unsafe { ugb_label_shown(s.as_ptr(), s.len(), security_first) }
+    unsafe { ugb_label_shown(s.as_ptr(), s.len(), first) }
 }
 
 #[inline]
-pub(crate) fn support_copy(s: &[u8], security_first: bool, out: &mut [u8]) -> Output {
+pub(crate) fn support_copy(s: &[u8], first: First, out: &mut [u8]) -> Output {
     // SAFETY: pointers and lengths are those of slices, and `out` is borrowed alone.
-    unsafe { ugb_support_copy(s.as_ptr(), s.len(), security_first, out.as_mut_ptr(), out.len()) }
+    unsafe { ugb_support_copy(s.as_ptr(), s.len(), first, out.as_mut_ptr(), out.len()) }
 }
 
 /// The numbers of a section's values, which stand first in them and lie as in C.

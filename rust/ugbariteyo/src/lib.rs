@@ -11,20 +11,20 @@
 //! # Reading a section
 //!
 //! ```
-//! use ugbariteyo::{read, Kind};
+//! use ugbariteyo::{read, First, Kind};
 //!
 //! let mut input = [0; 60];
 //! input[32] = 3; // MessageSize
 //! input[36] = 3; // AllocationBodySize
 //! input[56..59].copy_from_slice(b"two");
 //!
-//! let section = read(&input, false)?;
+//! let section = read(&input, First::PropertiesHeader)?;
 //! assert_eq!(section.body(), b"two");
 //! assert_eq!(section.section_length(), 60);
 //!
-//! let refusal = read(&input[..59], false).unwrap_err();
+//! let refusal = read(&input[..59], First::PropertiesHeader).unwrap_err();
 //! assert_eq!(refusal.kind(), Some(Kind::InputShort));
-//! assert_eq!(refusal.to_string(), "refused with 1 at 0: input short");
+//! assert_eq!(refusal.to_string(), "refused with 1 at 0: input ends before the section does");
 //! # Ok::<(), ugbariteyo::Refusal>(())
 //! ```
 //!
@@ -33,16 +33,16 @@
 //! The copy holds what is judged and nothing private; it reads to the same summary.
 //!
 //! ```
-//! use ugbariteyo::{same_summary, support_copy_vec};
+//! use ugbariteyo::{same_summary, support_copy_vec, First};
 //!
 //! let mut input = [0; 60];
 //! input[32] = 3;
 //! input[36] = 3;
 //! input[56..59].copy_from_slice(b"two");
 //!
-//! let copy = support_copy_vec(&input, false)?;
+//! let copy = support_copy_vec(&input, First::PropertiesHeader)?;
 //! assert_eq!(copy[56..59], [0; 3]);
-//! assert!(same_summary(&input, &copy, false));
+//! assert!(same_summary(&input, &copy, First::PropertiesHeader));
 //! # Ok::<(), ugbariteyo::Refusal>(())
 //! ```
 //!
@@ -55,22 +55,29 @@
 
 #![deny(missing_docs)]
 #![deny(unsafe_code)]
+#![warn(clippy::missing_errors_doc)]
 
 mod copy;
 mod ffi;
 mod flags;
+mod part;
 mod queue;
+mod reading;
 mod refusal;
 mod request;
 mod section;
+mod summary;
 mod text;
 mod write;
 
 pub use copy::{support_copy, support_copy_vec};
 pub use flags::{PropertiesFlags, SecurityFlags};
-pub use queue::{read_image, write_image, Image, QueueFormat, Value};
+pub use part::Part;
+pub use queue::{read_image, write_image, write_image_parts, Image, QueueFormat, Value};
+pub use reading::Reading;
 pub use refusal::{Kind, Refusal};
 pub use request::{defaulted, send, send_vec, Body, Handling, Properties, Request, Sender};
-pub use section::{label_shown, read, same_summary, summarize, Part, Reading, Security, Summary, LIMIT};
+pub use section::{label_shown, read, same_summary, summarize, First, LIMIT};
+pub use summary::{Security, Summary};
 pub use text::{text_bytes, Text, Units};
 pub use write::{write_section, write_section_vec, SectionValues};

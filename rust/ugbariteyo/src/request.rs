@@ -2,14 +2,15 @@
 
 use std::fmt;
 
+use crate::part::{found, kept};
 use crate::refusal::Refusal;
-use crate::section::{Part, LIMIT};
+use crate::section::LIMIT;
 use crate::{ffi, ffi::accepted};
 
 /// A send request. A number that is `None` and a part that is empty are absent.
 ///
 /// Its `Debug` shows no private part.
-#[derive(Clone, Copy, PartialEq, Eq, Default)]
+#[derive(Clone, Copy, PartialEq, Eq, Hash, Default)]
 pub struct Request<'a> {
     /// Priority, 0 to 7.
     pub priority: Option<u32>,
@@ -83,7 +84,7 @@ impl Request<'_> {
 }
 
 /// The body of a request.
-#[derive(Clone, Copy, PartialEq, Eq, Default)]
+#[derive(Clone, Copy, PartialEq, Eq, Hash, Default)]
 pub struct Body<'a> {
     /// Its bytes.
     pub bytes: &'a [u8],
@@ -130,7 +131,7 @@ impl fmt::Debug for Request<'_> {
 }
 
 /// What no section carries.
-#[derive(Debug, Clone, Copy, PartialEq, Eq)]
+#[derive(Debug, Clone, Copy, PartialEq, Eq, Hash)]
 #[non_exhaustive]
 pub struct Handling {
     /// Priority.
@@ -152,7 +153,7 @@ pub struct Handling {
 }
 
 /// What only a SecurityHeader carries.
-#[derive(Debug, Clone, Copy, PartialEq, Eq)]
+#[derive(Debug, Clone, Copy, PartialEq, Eq, Hash)]
 #[non_exhaustive]
 pub struct Sender {
     /// The sender kind.
@@ -164,7 +165,7 @@ pub struct Sender {
 }
 
 /// The defaulted properties of a request. Its `Debug` shows no private part.
-#[derive(Clone, Copy, PartialEq, Eq)]
+#[derive(Clone, Copy, PartialEq, Eq, Hash)]
 #[non_exhaustive]
 pub struct Properties<'a> {
     /// What no section carries.
@@ -231,8 +232,8 @@ impl<'a> Properties<'a> {
             message_size: properties.message_size,
             allocation_body_size: properties.allocation_body_size,
             correlation_id: answer.correlation_id,
-            title: &request.title[..properties.title as usize],
-            signature: Part::from(properties.signature).of(request.signature),
+            title: kept(properties.title, request.title),
+            signature: found(properties.signature, request.signature),
         }
     }
 }
@@ -303,7 +304,9 @@ impl fmt::Debug for Properties<'_> {
 
 /// The defaulted properties of a request: each absent value has its default, title and signature are cut.
 ///
-/// Refused by the steps of a request in their order: with 20 and 10, 21 to 28, then 11 and 8. The place is 0.
+/// # Errors
+///
+/// By the steps of a request in their order: 20 and 10, 21 to 28, then 11 and 8. The place is 0.
 ///
 /// ```
 /// use ugbariteyo::{defaulted, Request};
@@ -320,24 +323,30 @@ pub fn defaulted<'a>(request: &Request<'a>) -> Result<Properties<'a>, Refusal> {
     Ok(Properties::new(&answer, request))
 }
 
-/// Writes the section of a request to the front of `out`, and gives its length.
+/// Writes the section of a request to the front of `out`, and gives its length. Bytes of `out` behind the section
+/// stay as they were.
 ///
-/// Refused as [`defaulted`] is, then with 13 where `out` is shorter than the section. A refusal writes
-/// nothing, and bytes of `out` behind the section stay as they were.
+/// # Errors
+///
+/// As of [`defaulted`], then 13 where `out` is shorter than the section. Nothing is written then.
 #[inline]
 pub fn send(request: &Request<'_>, out: &mut [u8]) -> Result<usize, Refusal> {
     ffi::written(ffi::send(numbers(request), parts(request), out))
 }
 
-/// The section of a request in a vector of its own. Refused as [`defaulted`] is.
+/// The section of a request in a vector of its own.
+///
+/// # Errors
+///
+/// As of [`defaulted`].
 ///
 /// ```
-/// use ugbariteyo::{read, send_vec, Body, Request};
+/// use ugbariteyo::{read, send_vec, Body, First, Request};
 ///
 /// let title: Vec<u16> = "Rope 7".encode_utf16().collect();
 /// let body = Body::from(&b"second"[..]);
 /// let section = send_vec(&Request { title: &title, body: Some(body), ..Request::default() })?;
-/// assert_eq!(read(&section, false)?.label_text().to_string(), "Rope 7");
+/// assert_eq!(read(&section, First::PropertiesHeader)?.label_text().to_string(), "Rope 7");
 /// # Ok::<(), ugbariteyo::Refusal>(())
 /// ```
 pub fn send_vec(request: &Request<'_>) -> Result<Vec<u8>, Refusal> {

@@ -2,8 +2,8 @@
 //! values.
 
 use ugbariteyo::{
-    defaulted, read, send, send_vec, Body, Kind, PropertiesFlags, Refusal, Request, SecurityFlags, Units,
-    LIMIT,
+    defaulted, read, send, send_vec, Body, First, Kind, PropertiesFlags, Refusal, Request, SecurityFlags,
+    Units, LIMIT,
 };
 
 fn refused(kind: Kind) -> Refusal {
@@ -55,12 +55,15 @@ fn example_11_titles() {
     for (length, label) in [(0, 0), (1, 2), (248, 249), (249, 250), (250, 250), (300, 250)] {
         let title = vec![0x61; length];
         let section = send_vec(&Request { title: &title, ..Default::default() }).unwrap();
-        assert_eq!(read(&section, false).unwrap().label_length(), Units(label));
+        assert_eq!(read(&section, First::PropertiesHeader).unwrap().label_length(), Units(label));
     }
     let cut = [0x61, 0, 0x62];
     let request = Request { title: &cut, ..Default::default() };
     assert_eq!(defaulted(&request).unwrap().title, [0x61]);
-    assert_eq!(read(&send_vec(&request).unwrap(), false).unwrap().label_text().to_string(), "a");
+    assert_eq!(
+        read(&send_vec(&request).unwrap(), First::PropertiesHeader).unwrap().label_text().to_string(),
+        "a"
+    );
     let empty = Request { title: &cut[1..], ..Default::default() };
     assert_eq!(send_vec(&empty).unwrap(), [0; 56]);
 }
@@ -100,7 +103,7 @@ fn a_section_carries_the_defaulted_values() {
     assert_eq!(properties.privacy_level, 2);
 
     let bytes = send_vec(&request).unwrap();
-    let section = read(&bytes, true).unwrap();
+    let section = read(&bytes, First::SecurityHeader).unwrap();
     assert_eq!(section.section_length(), bytes.len());
     assert_eq!(section.security_flags(), SecurityFlags(0x00A1));
     assert_eq!((section.sender_id(), section.encryption_key()), (&SID[..], &b"key"[..]));
@@ -124,7 +127,7 @@ fn a_section_carries_the_defaulted_values() {
 
     let default = Request { default_provider: true, provider_type: Some(1), ..request };
     let bytes = send_vec(&default).unwrap();
-    let section = read(&bytes, true).unwrap();
+    let section = read(&bytes, First::SecurityHeader).unwrap();
     assert_eq!((section.security_flags(), section.provider_info()), (SecurityFlags(0x00E1), &b""[..]));
 }
 
@@ -143,8 +146,8 @@ fn steps_in_their_order() {
         (Kind::RequestIdentity, |r| r.sender_kind = Some(2)),
         (Kind::HashAbsent, |r| r.hash_algorithm = None),
         (Kind::AlgorithmAbsent, |r| r.encryption_algorithm = None),
-        (Kind::DirectQueuePrivacy, |r| r.direct_queue = true),
-        (Kind::RequestPrivacy, |r| r.privacy_level = Some(3)),
+        (Kind::PrivacyOnADirectQueue, |r| r.direct_queue = true),
+        (Kind::Privacy, |r| r.privacy_level = Some(3)),
         (Kind::Class, |r| r.message_class = Some(0x1_0000)),
     ];
     for (kind, fail) in steps {
@@ -152,7 +155,7 @@ fn steps_in_their_order() {
         check(&request, kind);
     }
     request.priority = Some(8);
-    check(&request, Kind::RequestRange);
+    check(&request, Kind::ValueOutOfRange);
 
     let good = full(&title, &name);
     for request in [
@@ -161,7 +164,7 @@ fn steps_in_their_order() {
         Request { acknowledge: Some(16), ..good },
         Request { auditing: Some(4), ..good },
     ] {
-        check(&request, Kind::RequestRange);
+        check(&request, Kind::ValueOutOfRange);
     }
     for request in [
         Request { sender_kind: Some(3), ..good },

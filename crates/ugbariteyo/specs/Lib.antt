@@ -2,6 +2,8 @@ pub mod Defaulted
 pub mod Label
 pub mod Output
 pub mod Queue
+pub mod Refusals
 pub mod Request
 pub mod Section
+pub mod Send
 pub mod Zero

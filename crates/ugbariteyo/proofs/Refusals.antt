@@ -19,6 +19,7 @@ use Rattle.rules.specs.declared.refusal.Checked.the-variants.{Passed, Refused a
 use Rattle.rules.specs.declared.refusal.Refusal.{Refusal}
 use Rattle.rules.specs.declared.section.Output.{Output}
 use Rattle.rules.specs.declared.section.Output.the-variants.{Written, Refused}
+use Rattle.rules.specs.declared.section.Part.{Part}
 use Rattle.rules.specs.declared.section.Reading.the-variants.{Accepted as Reading·Accepted}
 use Rattle.writing.specs.Given.{Given}
 use Rattle.writing.specs.Writing.{layoutLength, writeAnswer, writeRefusal}
@@ -32,10 +33,13 @@ use Rattle.requests.specs.Section.{first, sectionLength}
 use Rattle.requests.specs.Steps.{answerOf, defaulted, firstFailure, refused, requestSteps, steps}
 use Rattle.requests.specs.declared.properties.Defaulted.the-variants.{Properties as Defaulted·Properties}
 use Rattle.sending.specs.Send.{answerAfter, sendAnswer}
+use Rattle.records.specs.Record.{answerOf as listingAnswer}
+use Rattle.records.specs.declared.record.Answer.the-variants.{Accepted as Answer·Accepted}
 use Rattle.ugbariteyo.specs.Defaulted.{answerWith, defaultedAnswer}
 use Rattle.ugbariteyo.specs.Output.{outputAnswer}
 use Rattle.ugbariteyo.specs.Queue.{imageAnswer}
-use Rattle.ugbariteyo.specs.Refusals.{NumberTells, Told, WrittenTold}
+use Rattle.ugbariteyo.specs.Record.{found, recordFilled}
+use Rattle.ugbariteyo.specs.Refusals.{ListedTold, NumberTells, Told, WrittenTold}
 use Rattle.ugbariteyo.specs.Section.{readingAnswer}
 use Rattle.ugbariteyo.specs.Send.{sentAnswer}
 
@@ -57,6 +61,15 @@ reading first s = go (eqb (judge first s .number) 0) refl
         → Told Reading·Accepted (read first s) (readingAnswer (read first s) .refusal .number) (readingAnswer (read first s) .section)
     go true e = rw e (told-accepted Reading·Accepted (sectionOf (summaryAt first s) s))
     go false e = rw e (told-refused Reading·Accepted _ _ _ (eqb-false (judge first s .number) 0 e) (λ w f. let z : _≡_ {A = ℕ} 0 1 = cc in omega arith))
+
+-- a record's section
+listing : (size : Bytes) (first : Bool) (section : Part) (s : List ℕ) → ListedTold size first section (listingAnswer (summarize first s))
+unfolding summarize listingAnswer found recordFilled
+listing size first section s = go (eqb (judge first s .number) 0) refl
+  where
+    go : (b : Bool) → eqb (judge first s .number) 0 ≡ b → ListedTold size first section (listingAnswer (summarize first s))
+    go true e = rw e (told-accepted Answer·Accepted _)
+    go false e = rw e (told-refused Answer·Accepted _ _ _ (eqb-false (judge first s .number) 0 e) (λ w f. let z : _≡_ {A = ℕ} 0 1 = cc in omega arith))
 
 -- images
 imageReading : (s : List ℕ) → Told ImageRead·Accepted (readImage s) (imageAnswer (readImage s) .refusal .number) (imageOf s)
@@ -158,4 +171,5 @@ number-tells =
       imageWriting = λ f fixed text out. written-told _ (imageWriting f fixed text out);
       defaulting = λ q id. defaulting q (correlationOf (q .values) id) (requestSteps q) (request-numbered q);
       sending = λ q out. sent-told (first q) _ (sending q out (requestSteps q) (request-numbered q));
+      listing = listing;
     }

@@ -2,6 +2,7 @@ pub mod Defaulted
 pub mod Label
 pub mod Output
 pub mod Queue
+pub mod Record
 pub mod Refusals
 pub mod Request
 pub mod Section

@@ -3,10 +3,12 @@ use Prim.Native.Nat.{ℕ}
 use mathlib.Core.Path.{_≡_}
 use mathlib.Core.Bool.{Bool}
 use mathlib.Core.List.{List}
-use Rattle.rules.specs.Reading.{read}
+use Rattle.octets.specs.declared.count.Bytes.{Bytes}
+use Rattle.rules.specs.Reading.{read, summarize}
 use Rattle.rules.specs.Support.{supportAnswer}
 use Rattle.rules.specs.declared.section.Output.{Output}
 use Rattle.rules.specs.declared.section.Output.the-variants.{Written}
+use Rattle.rules.specs.declared.section.Part.{Part}
 use Rattle.rules.specs.declared.section.Reading.the-variants.{Accepted as Reading·Accepted}
 use Rattle.writing.specs.Given.{Given}
 use Rattle.writing.specs.Writing.{writeAnswer}
@@ -20,9 +22,13 @@ use Rattle.requests.specs.Section.{first}
 use Rattle.requests.specs.Steps.{defaulted}
 use Rattle.requests.specs.declared.properties.Defaulted.the-variants.{Properties as Defaulted·Properties}
 use Rattle.sending.specs.Send.{sendAnswer}
+use Rattle.records.specs.Record.{answerOf}
+use Rattle.records.specs.declared.record.Answer.{Answer}
+use Rattle.records.specs.declared.record.Answer.the-variants.{Accepted as Answer·Accepted}
 use Rattle.ugbariteyo.specs.Defaulted.{defaultedAnswer}
 use Rattle.ugbariteyo.specs.Output.{outputAnswer}
 use Rattle.ugbariteyo.specs.Queue.{imageAnswer}
+use Rattle.ugbariteyo.specs.Record.{found, lineIn}
 use Rattle.ugbariteyo.specs.Section.{readingAnswer}
 use Rattle.ugbariteyo.specs.Send.{sentAnswer}
 
@@ -34,6 +40,11 @@ pub record Told {A B : Type 0} (accepted : B → A) (own : A) (number : ℕ) (va
 -- the same of a call that writes
 abbrev pub WrittenTold : Output → Type 0
 WrittenTold own = Told Written own (outputAnswer own .refusal .number) (outputAnswer own .length)
+
+-- the same of a record that is found
+abbrev pub ListedTold : Bytes → Bool → Part → Answer → Type 0
+ListedTold size first section own =
+    Told Answer·Accepted own (found size first section own .refusal .number) (lineIn (found size first section own))
 
 -- of every answer that holds a refusal
 pub record NumberTells : Type 0 where
@@ -47,3 +58,4 @@ pub record NumberTells : Type 0 where
       → Told Defaulted·Properties (defaulted q) (defaultedAnswer q id .refusal .number) (properties q)
   pub sending : (q : SendRequest) (out : List ℕ)
       → Told Written (sendAnswer q out) (sentAnswer (first q) (sendAnswer q out) .refusal .number) (sentAnswer (first q) (sendAnswer q out) .length)
+  pub listing : (size : Bytes) (first : Bool) (section : Part) (s : List ℕ) → ListedTold size first section (answerOf (summarize first s))

@@ -1,5 +1,4 @@
 -- The answer of reading picks the case.
-use Rattle.queues.specs.Read.{readImage}
 use Rattle.ugbariteyo.specs.Queue.{imageAnswer}
 use borrow.Author.Needs.{needs}
 use Rattle.ugbariteyo.proofs.Laws.Queue.{answer-again}

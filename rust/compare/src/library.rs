@@ -11,8 +11,8 @@ use std::thread;
 use independent::queue::Value;
 use ugbariteyo as library;
 
-use crate::side::{Answer, Defaulted, Image, Part, Parts, Reading, Refusal, Request, SectionValues};
-use crate::side::{Security, Side, Source, Summary};
+use crate::side::{Answer, Defaulted, Image, Line, Next, Part, Parts, Reading, Record, Records, Refusal};
+use crate::side::{Request, SectionValues, Security, Sent, Side, Source, Summary};
 
 /// Where the listing program lies where nothing else is said.
 const LISTING: &str = concat!(env!("CARGO_MANIFEST_DIR"), "/../../target/bin/listing");
@@ -75,8 +75,24 @@ impl Side for Library {
     fn defaulted<'a>(&self, values: &Request<'a>) -> Answer<Defaulted<'a>> {
         library::defaulted(&request(values)).map(defaulted).map_err(refusal)
     }
-    fn send(&self, values: &Request<'_>, out: &mut [u8]) -> Answer<usize> {
-        library::send(&request(values), out).map_err(refusal)
+    fn send(&self, values: &Request<'_>, out: &mut [u8]) -> Answer<Sent> {
+        let sent = library::send(&request(values), out).map_err(refusal)?;
+        Ok(Sent { length: sent.length, security_first: security_first(sent.first) })
+    }
+    fn next_record<'a>(&self, rest: &'a [u8]) -> Next<'a> {
+        match library::next_record(rest) {
+            library::Next::End => Next::End,
+            library::Next::Stop => Next::Stop,
+            library::Next::Found(found) => Next::Found(record(&found)),
+        }
+    }
+    fn records<'a>(&self, file: &'a [u8]) -> Records<'a> {
+        let mut records = library::records(file);
+        let mut stop = None;
+        let whole = records.by_ref().map_while(|next| next.map_err(|why| stop = Some(why)).ok());
+        let whole = whole.map(|found| record(&found)).collect();
+        assert!(records.next().is_none(), "an iterator that ended stays ended");
+        Records { whole, stop: stop.map(|stop| (stop.number, stop.place)) }
     }
     fn list(&self, file: &[u8], source: Source) -> io::Result<Vec<u8>> {
         let stdin = match source {
@@ -122,6 +138,26 @@ pub fn first(security_first: bool) -> library::First {
         library::First::SecurityHeader
     } else {
         library::First::PropertiesHeader
+    }
+}
+
+fn security_first(first: library::First) -> bool {
+    first == library::First::SecurityHeader
+}
+
+fn record<'a>(record: &library::Record<'a>) -> Record<'a> {
+    let line = |line: library::Line| Line {
+        class: line.message_class,
+        label: line.label_length.0,
+        extension: line.extension_size as u32,
+        body: line.message_size as u32,
+        total: line.section_length,
+    };
+    Record {
+        size: record.size,
+        security_first: security_first(record.first),
+        section: record.section,
+        answer: record.answer.map(line).map_err(refusal),
     }
 }
 

@@ -7,7 +7,7 @@
 use std::env;
 use std::error::Error;
 
-use ugbariteyo::{defaulted, read, send_vec, Body, First, Request};
+use ugbariteyo::{defaulted, read, send_vec, Body, Request};
 
 fn main() -> Result<(), Box<dyn Error>> {
     let args: Vec<String> = env::args().skip(1).collect();
@@ -24,8 +24,8 @@ fn main() -> Result<(), Box<dyn Error>> {
     }
     println!("title           {:?}", String::from_utf16_lossy(properties.title));
 
-    let bytes = send_vec(&request)?;
-    let section = read(&bytes, First::PropertiesHeader)?;
+    let (bytes, first) = send_vec(&request)?;
+    let section = read(&bytes, first)?;
     println!("section length  {}", section.section_length());
     println!("class           {:#06x}", section.message_class());
     println!("label           {} units, {:?}", section.label_length().0, section.label_text());

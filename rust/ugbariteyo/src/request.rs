@@ -4,13 +4,15 @@ use std::fmt;
 
 use crate::part::{found, kept};
 use crate::refusal::Refusal;
-use crate::section::LIMIT;
+use crate::section::{First, LIMIT};
 use crate::{ffi, ffi::accepted};
 
 /// A send request. A number that is `None` and a part that is empty are absent.
 ///
 /// Its `Debug` shows no private part.
+// The numbers that may be absent stand first and lie as in C, so that a call takes them as they are.
 #[derive(Clone, Copy, PartialEq, Eq, Hash, Default)]
+#[repr(C)]
 pub struct Request<'a> {
     /// Priority, 0 to 7.
     pub priority: Option<u32>,
@@ -238,51 +240,6 @@ impl<'a> Properties<'a> {
     }
 }
 
-/// The request's numbers, each with a mark of whether it is there.
-#[inline]
-fn numbers(request: &Request<'_>) -> ffi::Request {
-    ffi::Request {
-        priority: request.priority.into(),
-        trace: request.trace.into(),
-        delivery: request.delivery.into(),
-        auditing: request.auditing.into(),
-        message_class: request.message_class.into(),
-        acknowledge: request.acknowledge.into(),
-        application_tag: request.application_tag.into(),
-        privacy_level: request.privacy_level.into(),
-        hash_algorithm: request.hash_algorithm.into(),
-        encryption_algorithm: request.encryption_algorithm.into(),
-        body_type: request.body_type.into(),
-        sender_kind: request.sender_kind.into(),
-        provider_type: request.provider_type.into(),
-        split_number: request.split_number.into(),
-        provider_name_length: request.provider_name_length,
-        correlation_given: request.correlation_id.is_some(),
-        body_given: request.body.is_some(),
-        allocation_body_size: request.body.map_or(0, |body| body.allocation),
-        transaction: request.transaction,
-        direct_queue: request.direct_queue,
-        default_provider: request.default_provider,
-        encryption: request.encryption,
-    }
-}
-
-/// What the request lends beside its numbers.
-#[inline]
-fn parts<'a>(request: &'a Request<'a>) -> ffi::RequestParts<'a> {
-    ffi::RequestParts {
-        correlation_id: request.correlation_id.as_ref().unwrap_or(&[0; 20]),
-        title: request.title,
-        sender_id: request.sender_id,
-        encryption_key: request.encryption_key,
-        signature: request.signature,
-        sender_cert: request.sender_cert,
-        provider_name: request.provider_name,
-        extension: request.extension,
-        body: request.body.unwrap_or_default().bytes,
-    }
-}
-
 impl fmt::Debug for Properties<'_> {
     fn fmt(&self, f: &mut fmt::Formatter<'_>) -> fmt::Result {
         f.debug_struct("Properties")
@@ -318,40 +275,51 @@ impl fmt::Debug for Properties<'_> {
 /// ```
 #[inline]
 pub fn defaulted<'a>(request: &Request<'a>) -> Result<Properties<'a>, Refusal> {
-    let answer = ffi::defaulted(numbers(request), parts(request));
+    let answer = ffi::defaulted(request);
     accepted(answer.refusal)?;
     Ok(Properties::new(&answer, request))
 }
 
-/// Writes the section of a request to the front of `out`, and gives its length. Bytes of `out` behind the section
-/// stay as they were.
+/// A section that was sent.
+#[derive(Debug, Clone, Copy, PartialEq, Eq, Hash)]
+#[non_exhaustive]
+pub struct Sent {
+    /// Its length.
+    pub length: usize,
+    /// Which header stands first in it: how to read it.
+    pub first: First,
+}
+
+/// Writes the section of a request to the front of `out`. Bytes of `out` behind the section stay as they were.
 ///
 /// # Errors
 ///
 /// As of [`defaulted`], then 13 where `out` is shorter than the section. Nothing is written then.
 #[inline]
-pub fn send(request: &Request<'_>, out: &mut [u8]) -> Result<usize, Refusal> {
-    ffi::written(ffi::send(numbers(request), parts(request), out))
+pub fn send(request: &Request<'_>, out: &mut [u8]) -> Result<Sent, Refusal> {
+    let answer = ffi::send(request, out);
+    accepted(answer.refusal)?;
+    Ok(Sent { length: answer.length, first: answer.security_first })
 }
 
-/// The section of a request in a vector of its own.
+/// The section of a request in a vector of its own, and which header stands first in it.
 ///
 /// # Errors
 ///
 /// As of [`defaulted`].
 ///
 /// ```
-/// use ugbariteyo::{read, send_vec, Body, First, Request};
+/// use ugbariteyo::{read, send_vec, Body, Request};
 ///
 /// let title: Vec<u16> = "Rope 7".encode_utf16().collect();
 /// let body = Body::from(&b"second"[..]);
-/// let section = send_vec(&Request { title: &title, body: Some(body), ..Request::default() })?;
-/// assert_eq!(read(&section, First::PropertiesHeader)?.label_text().to_string(), "Rope 7");
+/// let (section, first) = send_vec(&Request { title: &title, body: Some(body), ..Request::default() })?;
+/// assert_eq!(read(&section, first)?.label_text().to_string(), "Rope 7");
 /// # Ok::<(), ugbariteyo::Refusal>(())
 /// ```
-pub fn send_vec(request: &Request<'_>) -> Result<Vec<u8>, Refusal> {
+pub fn send_vec(request: &Request<'_>) -> Result<(Vec<u8>, First), Refusal> {
     let mut section = vec![0; request.room()];
-    let length = send(request, &mut section)?;
+    let Sent { length, first } = send(request, &mut section)?;
     section.truncate(length);
-    Ok(section)
+    Ok((section, first))
 }

@@ -11,7 +11,7 @@ use crate::section::{First, LIMIT};
 /// The values and parts of a section to write. The sizes are those of the parts.
 ///
 /// Its `Debug` shows no private part.
-// The numbers stand first and lie as in C, so that a call takes them as they are.
+// The values but the parts stand first and lie as in C, so that a call takes them as they are.
 #[derive(Clone, Copy, PartialEq, Eq, Hash, Default)]
 #[repr(C)]
 pub struct SectionValues<'a> {

@@ -153,6 +153,16 @@ pub fn write_image() -> Row {
     written("queue image write, direct name".into(), &out, calls)
 }
 
+/// The next record of a day's file, which is this sample's.
+pub fn next_record(sample: &Sample) -> Row {
+    let record = sample.record();
+    let calls = vec![
+        (Library, taken(|| library::next_record(&record))),
+        (PlainRust, taken(|| independent::listing::next_record(&record))),
+    ];
+    Row::timed(format!("next record, {}", sample.name), record.len(), calls)
+}
+
 fn from_c<'a>(calls: impl FnMut(u64) + 'a) -> Repeated<'a> {
     Box::new(calls)
 }

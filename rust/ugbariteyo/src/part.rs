@@ -34,9 +34,9 @@ impl From<ffi::Part> for Part {
     }
 }
 
-// The crate expects in the three functions below and nowhere else, and it indexes nowhere. None of them can fail: they
-// are called with an accepted answer and the slices that the library was lent for it, and the library is proved to answer
-// with parts that lie in those slices and have their type's length.
+// The three functions below are the only ones of the crate that can panic, and they cannot: they are called with an
+// accepted answer and what the library was lent for it, and it is proved to answer with parts that lie in what was lent
+// and have their type's length.
 
 /// The bytes of a part that the library found in `input`.
 #[inline]
@@ -46,8 +46,8 @@ pub(crate) fn found(part: ffi::Part, input: &[u8]) -> &[u8] {
 
 /// The bytes of a part that has `N` of them.
 #[inline]
-pub(crate) fn found_array<const N: usize>(part: ffi::Part, input: &[u8]) -> &[u8; N] {
-    found(part, input).try_into().expect("a part that was found has its type's length")
+pub(crate) fn all_of<const N: usize>(found: &[u8]) -> &[u8; N] {
+    found.try_into().expect("a part that was found has its type's length")
 }
 
 /// The units of a text that are kept.

@@ -1,6 +1,6 @@
 //! Queue formats: the type with its numbers, and images read and written.
 
-use crate::part::{found, found_array};
+use crate::part::{all_of, found};
 use crate::refusal::Refusal;
 use crate::text::Text;
 use crate::{ffi, ffi::accepted};
@@ -153,17 +153,17 @@ pub struct Image<'a> {
 pub fn read_image(input: &[u8]) -> Result<Image<'_>, Refusal> {
     let answer = ffi::read_image(input);
     accepted(answer.refusal)?;
-    let ffi::ImageRead { format, fixed, .. } = answer;
-    let format = QueueFormat { kind: format.kind, suffix_and_flags: format.suffix_and_flags };
+    let format = QueueFormat { kind: answer.format.kind, suffix_and_flags: answer.format.suffix_and_flags };
+    let fixed = found(answer.fixed, input);
     let text = Text::new(found(answer.text, input));
     let value = match format.kind {
         QueueFormat::TYPE_PUBLIC | QueueFormat::TYPE_MACHINE | QueueFormat::TYPE_CONNECTOR => {
-            Value::Guid(found_array(fixed, input))
+            Value::Guid(all_of(fixed))
         }
-        QueueFormat::TYPE_PRIVATE => Value::ObjectId(found_array(fixed, input)),
-        QueueFormat::TYPE_MULTICAST => Value::MulticastId(found_array(fixed, input)),
+        QueueFormat::TYPE_PRIVATE => Value::ObjectId(all_of(fixed)),
+        QueueFormat::TYPE_MULTICAST => Value::MulticastId(all_of(fixed)),
         QueueFormat::TYPE_DIRECT | QueueFormat::TYPE_SUBQUEUE => Value::Text(text),
-        QueueFormat::TYPE_DL => Value::GuidAndText(found_array(fixed, input), text),
+        QueueFormat::TYPE_DL => Value::GuidAndText(all_of(fixed), text),
         _ => Value::Nothing,
     };
     Ok(Image { format, value })

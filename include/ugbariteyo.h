@@ -157,11 +157,16 @@ typedef struct ugb_label {
     ugb_part part; /* else the label, null included; 0 and 0 where the stand-in is shown */
 } ugb_label;
 
-/* The summary of the section at the first of s_length bytes. Bytes behind the section are not read. */
-ugb_summarized ugb_summarize(const uint8_t *s, size_t s_length, bool security_first);
-
-/* The full reading of that section. Refused exactly as ugb_summarize is. */
+/* The full reading of the section at the first of s_length bytes. Bytes behind the section are not read. */
 ugb_reading ugb_read(const uint8_t *s, size_t s_length, bool security_first);
+
+/* The summary of that section. Refused exactly as ugb_read is. */
+static inline ugb_summarized ugb_summarize(const uint8_t *s, size_t s_length, bool security_first)
+{
+    ugb_reading r = ugb_read(s, s_length, security_first);
+    ugb_summarized m = { r.refusal, r.section.summary };
+    return m;
+}
 
 /* Whether both inputs are accepted, with the same summary, label and provider name by content: exactly when they agree
  * in every judged bit, and exactly when their support copies are the same bytes. */
@@ -177,7 +182,7 @@ typedef struct ugb_output {
     size_t length;       /* how many bytes were written; 0 where refused */
 } ugb_output;
 
-/* The support copy: the section with every private bit zero. Refused as ugb_summarize is, then with 13 where out_length
+/* The support copy: the section with every private bit zero. Refused as ugb_read is, then with 13 where out_length
  * is below the section's length. */
 ugb_output ugb_support_copy(const uint8_t *s, size_t s_length, bool security_first, uint8_t *out, size_t out_length);
 

@@ -1,3 +1,5 @@
+pub mod Case
 pub mod Decided
 pub mod Fields
+pub mod Label
 pub mod Same

@@ -198,20 +198,21 @@ typedef struct ugb_section_values {
     uint32_t privacy_level;        /* PrivacyLevel */
     uint32_t hash_algorithm;       /* HashAlgorithm */
     uint32_t encryption_algorithm; /* EncryptionAlgorithm */
+    uint8_t correlation_id[20];    /* CorrelationID */
 } ugb_section_values;
 
 /* The section of these values and parts, padding and X bits zero. The label is 16-bit units with their null, or empty.
  * Refused with 28, then 2 to 4 and 6 to 12 by the steps of reading, then 13. */
-ugb_output ugb_write_section(ugb_section_values values, const uint8_t correlation_id[20], /* CorrelationID, 20 bytes */
-                             const uint8_t *sender_id, size_t sender_id_length,           /* identity */
-                             const uint8_t *encryption_key, size_t encryption_key_length, /* key */
-                             const uint8_t *signature, size_t signature_length,           /* signature */
-                             const uint8_t *sender_cert, size_t sender_cert_length,       /* certificate */
-                             const uint8_t *provider_info, size_t provider_info_length,   /* type and name together */
-                             const uint8_t *label, size_t label_length,                   /* label, in bytes */
-                             const uint8_t *extension, size_t extension_length,           /* extension */
-                             const uint8_t *body, size_t body_length,                     /* body */
-                             uint8_t *out, size_t out_length);
+ugb_output ugb_write_section_positional(ugb_section_values values,
+    const uint8_t *sender_id, size_t sender_id_length,           /* identity */
+    const uint8_t *encryption_key, size_t encryption_key_length, /* key */
+    const uint8_t *signature, size_t signature_length,           /* signature */
+    const uint8_t *sender_cert, size_t sender_cert_length,       /* certificate */
+    const uint8_t *provider_info, size_t provider_info_length,   /* type and name together */
+    const uint8_t *label, size_t label_length,                   /* label, in bytes */
+    const uint8_t *extension, size_t extension_length,           /* extension */
+    const uint8_t *body, size_t body_length,                     /* body */
+    uint8_t *out, size_t out_length);
 
 /* ---- Send requests */
 

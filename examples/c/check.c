@@ -34,6 +34,7 @@ static const ugb_section_values values = {
     .privacy_level = 3,
     .hash_algorithm = 0x800C,
     .encryption_algorithm = 0x6610,
+    .correlation_id = {1, 2, 3, 4, 5, 6, 7, 8, 9, 10, 11, 12, 13, 14, 15, 16, 17, 18, 19, 20},
 };
 
 /* An identity with no sub-authority, and a provider of type 0x0B0C0D0E named "p". */
@@ -51,7 +52,7 @@ enum { PROPERTIES_AT = 52, SECTION_LENGTH = 136 };
 
 static ugb_output write_whole(ugb_section_values v, size_t certificate_length, size_t room)
 {
-    return ugb_write_section(v, correlation_id, identity, sizeof identity, key, sizeof key, signature, sizeof signature,
+    return ugb_write_section_positional(v, identity, sizeof identity, key, sizeof key, signature, sizeof signature,
                              input, certificate_length, provider, sizeof provider, label, sizeof label, extension,
                              sizeof extension, body, sizeof body, out, room);
 }
@@ -339,10 +340,10 @@ static void check_null(void)
     refused(ugb_support_copy(NULL, 0, false, out, sizeof out), UGB_INPUT_SHORT, 0);
     refused(ugb_support_copy(NULL, 0, false, NULL, 0), UGB_INPUT_SHORT, 0);
     refused(ugb_write_image((ugb_queue_format){0, 0}, NULL, 0, NULL, 0, NULL, 0), UGB_OUTPUT_SHORT, 0);
-    refused(ugb_write_section(zero, correlation_id, NULL, 0, NULL, 0, NULL, 0, NULL, 0, NULL, 0, NULL, 0, NULL, 0, NULL,
+    refused(ugb_write_section_positional(zero, NULL, 0, NULL, 0, NULL, 0, NULL, 0, NULL, 0, NULL, 0, NULL, 0, NULL,
                               0, NULL, 0),
             UGB_OUTPUT_SHORT, 0);
-    written(ugb_write_section(zero, correlation_id, NULL, 0, NULL, 0, NULL, 0, NULL, 0, NULL, 0, NULL, 0, NULL, 0, NULL,
+    written(ugb_write_section_positional(zero, NULL, 0, NULL, 0, NULL, 0, NULL, 0, NULL, 0, NULL, 0, NULL, 0, NULL,
                               0, out, sizeof out),
             56);
 }

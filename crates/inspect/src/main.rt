@@ -107,8 +107,9 @@ fn correlation_id(bytes: &[u8]) -> CorrelationId {
     id
 }
 
-fn values(r: Section) -> SectionValues {
+fn values(s: &[u8], r: Section) -> SectionValues {
     let f = r.summary.properties;
+    let correlation_id = correlation_id(part_of(s, r.correlation_id));
     let allocation_body_size = f.allocation_body_size;
     SectionValues {
         security_first: r.summary.security_first,
@@ -121,6 +122,7 @@ fn values(r: Section) -> SectionValues {
         privacy_level: f.privacy_level,
         hash_algorithm: f.hash_algorithm,
         encryption_algorithm: f.encryption_algorithm,
+        correlation_id,
     }
 }
 
@@ -129,8 +131,7 @@ fn write_again(s: &[u8], r: Section) {
     let security = r.summary.security.parts;
     let parts = r.summary.parts;
     let answer = write_section(
-        values(r),
-        correlation_id(part_of(s, r.correlation_id)),
+        values(s, r),
         part_of(s, security.sender_id),
         part_of(s, security.encryption_key),
         part_of(s, security.signature),

@@ -7,7 +7,7 @@ use lib.Dec.{ltb}
 use Rattle.rules.specs.Refusal.{bytes, refusal}
 use Rattle.rules.specs.declared.section.Output.{Output}
 use Rattle.rules.specs.declared.section.Output.the-variants.{Written, Refused as Output·Refused}
-use Rattle.writing.specs.Given.{Given}
+use Rattle.writing.specs.Given.{Given, Lent, given}
 use Rattle.writing.specs.Writing.{sectionBytes}
 use Rattle.writing.specs.declared.values.SectionValues.{SectionValues}
 use Rattle.requests.specs.Defaults.{bodyOf, correlationOf, properties, signatureOf}
@@ -20,6 +20,7 @@ use Rattle.requests.specs.declared.properties.Properties.{Properties}
 use Rattle.requests.specs.declared.properties.Sender.{Sender}
 use Rattle.requests.specs.declared.properties.Sender.the-variants.{Known, NotKnown}
 use Rattle.requests.specs.declared.properties.SenderValues.{SenderValues}
+use Rattle.requests.specs.declared.request.Request.{Request}
 
 -- a sender who is not known has kind 0 and no mark; a request's is known
 unfoldable pub senderOr : Sender → SenderValues
@@ -27,8 +28,8 @@ senderOr (Known values) = values
 senderOr NotKnown = record { kind = 0; «default_provider» = false; encryption = false }
 
 -- the values of the section: the defaulted properties, privacy mapped
-unfoldable pub valuesOf : Properties → Bool → SectionValues
-valuesOf p first =
+unfoldable pub valuesOf : Properties → Bool → List ℕ → SectionValues
+valuesOf p first correlationId =
     record {
       «security_first» = first;
       «security_flags» = securityFlags (senderOr (p .sender));
@@ -40,14 +41,14 @@ valuesOf p first =
       «privacy_level» = packetPrivacy (p .«privacy_level»);
       «hash_algorithm» = p .«hash_algorithm»;
       «encryption_algorithm» = p .«encryption_algorithm»;
+      «correlation_id» = correlationId;
     }
 
 -- and its parts
 unfoldable pub givenBy : SendRequest → List ℕ → Given
 givenBy q correlationId =
     record {
-      values = valuesOf (properties q) (first q);
-      correlationId = correlationOf (q .values) correlationId;
+      values = valuesOf (properties q) (first q) (correlationOf (q .values) correlationId);
       senderId = q .senderId;
       encryptionKey = q .encryptionKey;
       signature = signatureOf (q .values) (q .signature);
@@ -57,6 +58,12 @@ givenBy q correlationId =
       extension = q .extension;
       body = bodyOf (q .values) (q .body);
     }
+
+-- what a call gives the section writer, out of its parameters, with the provider info of a request
+abbrev pub withInfo : Request → Lent → Lent → SectionValues → Lent → Lent → Lent → Lent → Lent → Lent → Lent → Given
+withInfo request signature name values senderId encryptionKey kept senderCert label extension body =
+    given values (senderId .entry .now) (encryptionKey .entry .now) (kept .entry .now) (senderCert .entry .now)
+    (providerInfo request (signature .entry .now) (name .entry .now)) (label .entry .now) (extension .entry .now) (body .entry .now)
 
 -- 6: "Output: 13"
 unfoldable pub answerAfter : SendRequest → List ℕ → Defaulted → Output

@@ -80,7 +80,7 @@ securityBytes g =
 
 -- the fixed bytes of a MessagePropertiesHeader, then the parts
 unfoldable pub propertiesFixed : Given → List ℕ
-propertiesFixed g = rowBytes propertiesRow (fixed (propertiesGiven g) (g .correlationId) (g .values .«application_tag»))
+propertiesFixed g = rowBytes propertiesRow (fixed (propertiesGiven g) (g .values .«correlation_id») (g .values .«application_tag»))
 
 unfoldable pub propertiesBytes : Given → List ℕ
 propertiesBytes g = paddedPart (propertiesFixed g ++ (g .label ++ (g .extension ++ g .body)))

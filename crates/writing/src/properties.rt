@@ -139,6 +139,7 @@ pub(crate) fn write_properties(
     requires { ⌜ PropertiesSized f ⌝ }
     requires { ⌜ padded 4 (56 + length (now label) + length (now extension) + length (now body)) ≤ length (now out) ⌝ }
     ensures { λ _. ⌜ now (out .exit) ≡ over (paddedPart (rowBytes propertiesRow (fixed f «correlation_id» «application_tag») ++ (now (label .entry) ++ (now (extension .entry) ++ now (body .entry))))) (now (out .entry)) ⌝ }
+    ensures { λ _. ⌜ length «correlation_id» ≡ 20 ⌝ }
 {
     let size = 56 + label.len() + extension.len() + body.len();
     let zeros = padding(Bytes(size)).0;

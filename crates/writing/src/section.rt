@@ -10,17 +10,17 @@ use octets::count::Bytes;
 use rules::properties::section_end;
 use rules::refusal;
 use rules::refusal::Refusal;
-use rules::section::CorrelationId;
 use rules::section::Output;
 use rules::security::SecurityFields;
 use rules::security::security_length;
 ghost use mathlib.Core.Path.{_≡_};
 ghost use Prim.Native.Nat.{_+_, min};
+ghost use lib.ListN.{length};
 ghost use Rattle.octets.specs.Over.{over};
 ghost use Rattle.rules.specs.Refusal.{limit, refusal};
-ghost use Rattle.writing.specs.Given.{given, propertiesFrom, securityFrom};
+ghost use Rattle.writing.specs.Given.{given, lent};
 ghost use Rattle.writing.specs.Laid.{SectionLaid};
-ghost use Rattle.writing.specs.Writing.{headerNumber, judgeGiven, sectionBytes, startOf, writeAnswer, writeBytes, writeRefusal};
+ghost use Rattle.writing.specs.Writing.{headerNumber, sectionBytes, startOf, writeAnswer, writeBytes, writeRefusal};
 
 // 28 and the steps on the SecurityHeader, where one stands first.
 fn header_number(security_first: bool, f: SecurityFields, identity: &[u8], info: &[u8]) -> u32
@@ -54,7 +54,7 @@ fn judge(
     extension: &[u8],
     body: &[u8],
 ) -> Refusal
-    ensures { λ r. ⌜ r ≡ judgeGiven (values .«security_first») (securityFrom (values .«security_flags») (now («sender_id» .entry)) (now («encryption_key» .entry)) (now (signature .entry)) (now («sender_cert» .entry)) (now («provider_info» .entry))) (now («sender_id» .entry)) (now («provider_info» .entry)) (propertiesFrom values (now (label .entry)) (now (extension .entry)) (now (body .entry))) (now (label .entry)) ⌝ }
+    ensures { λ r. ⌜ r ≡ writeRefusal (lent values «sender_id» «encryption_key» signature «sender_cert» «provider_info» label extension body) ⌝ }
 {
     let security = security_given(
         values.security_flags,
@@ -81,7 +81,6 @@ fn judge(
 // The section, where every step has passed and the output has room. Its MessagePropertiesHeader begins at `start`.
 fn write_headers(
     values: SectionValues,
-    correlation_id: CorrelationId,
     sender_id: &[u8],
     encryption_key: &[u8],
     signature: &[u8],
@@ -93,8 +92,9 @@ fn write_headers(
     start: Bytes,
     out: &mut [u8],
 )
-    requires { ⌜ SectionLaid (given values «correlation_id» (now «sender_id») (now «encryption_key») (now signature) (now «sender_cert») (now «provider_info») (now label) (now extension) (now body)) (start .0) (now out) ⌝ }
-    ensures { λ _. ⌜ now (out .exit) ≡ over (sectionBytes (given values «correlation_id» (now («sender_id» .entry)) (now («encryption_key» .entry)) (now (signature .entry)) (now («sender_cert» .entry)) (now («provider_info» .entry)) (now (label .entry)) (now (extension .entry)) (now (body .entry)))) (now (out .entry)) ⌝ }
+    requires { ⌜ SectionLaid (given values (now «sender_id») (now «encryption_key») (now signature) (now «sender_cert») (now «provider_info») (now label) (now extension) (now body)) (start .0) (now out) ⌝ }
+    ensures { λ _. ⌜ now (out .exit) ≡ over (sectionBytes (lent values «sender_id» «encryption_key» signature «sender_cert» «provider_info» label extension body)) (now (out .entry)) ⌝ }
+    ensures { λ _. ⌜ length (values .«correlation_id») ≡ 20 ⌝ }
 {
     let first = values.security_first;
     if first {
@@ -116,6 +116,7 @@ fn write_headers(
         );
     }
     let at = start.0;
+    let correlation_id = values.correlation_id;
     write_properties(
         properties_given(values, label, extension, body),
         correlation_id,
@@ -139,7 +140,6 @@ fn output_short() -> Output
 // 13, and the section, where every step before has passed.
 fn write_judged(
     values: SectionValues,
-    correlation_id: CorrelationId,
     sender_id: &[u8],
     encryption_key: &[u8],
     signature: &[u8],
@@ -151,10 +151,10 @@ fn write_judged(
     start: Bytes,
     out: &mut [u8],
 ) -> Output
-    requires { ⌜ writeRefusal (given values «correlation_id» (now «sender_id») (now «encryption_key») (now signature) (now «sender_cert») (now «provider_info») (now label) (now extension) (now body)) .number ≡ 0 ⌝ }
-    requires { ⌜ writeRefusal (given values «correlation_id» (now «sender_id») (now «encryption_key») (now signature) (now «sender_cert») (now «provider_info») (now label) (now extension) (now body)) .place ≡ start ⌝ }
-    ensures { λ r. ⌜ r ≡ writeAnswer (given values «correlation_id» (now («sender_id» .entry)) (now («encryption_key» .entry)) (now (signature .entry)) (now («sender_cert» .entry)) (now («provider_info» .entry)) (now (label .entry)) (now (extension .entry)) (now (body .entry))) (now (out .entry)) ⌝ }
-    ensures { λ _. ⌜ now (out .exit) ≡ writeBytes (given values «correlation_id» (now («sender_id» .entry)) (now («encryption_key» .entry)) (now (signature .entry)) (now («sender_cert» .entry)) (now («provider_info» .entry)) (now (label .entry)) (now (extension .entry)) (now (body .entry))) (now (out .entry)) ⌝ }
+    requires { ⌜ writeRefusal (given values (now «sender_id») (now «encryption_key») (now signature) (now «sender_cert») (now «provider_info») (now label) (now extension) (now body)) .number ≡ 0 ⌝ }
+    requires { ⌜ writeRefusal (given values (now «sender_id») (now «encryption_key») (now signature) (now «sender_cert») (now «provider_info») (now label) (now extension) (now body)) .place ≡ start ⌝ }
+    ensures { λ r. ⌜ r ≡ writeAnswer (lent values «sender_id» «encryption_key» signature «sender_cert» «provider_info» label extension body) (now (out .entry)) ⌝ }
+    ensures { λ _. ⌜ now (out .exit) ≡ writeBytes (lent values «sender_id» «encryption_key» signature «sender_cert» «provider_info» label extension body) (now (out .entry)) ⌝ }
 {
     let length = section_end(properties_given(values, label, extension, body), start);
     if out.len() < length.0 {
@@ -162,7 +162,6 @@ fn write_judged(
     }
     write_headers(
         values,
-        correlation_id,
         sender_id,
         encryption_key,
         signature,
@@ -181,7 +180,6 @@ fn write_judged(
 // Bytes behind the section stay as they are.
 pub fn write_section(
     values: SectionValues,
-    correlation_id: CorrelationId,
     sender_id: &[u8],
     encryption_key: &[u8],
     signature: &[u8],
@@ -192,8 +190,8 @@ pub fn write_section(
     body: &[u8],
     out: &mut [u8],
 ) -> Output
-    ensures { λ r. ⌜ r ≡ writeAnswer (given values «correlation_id» (now («sender_id» .entry)) (now («encryption_key» .entry)) (now (signature .entry)) (now («sender_cert» .entry)) (now («provider_info» .entry)) (now (label .entry)) (now (extension .entry)) (now (body .entry))) (now (out .entry)) ⌝ }
-    ensures { λ _. ⌜ now (out .exit) ≡ writeBytes (given values «correlation_id» (now («sender_id» .entry)) (now («encryption_key» .entry)) (now (signature .entry)) (now («sender_cert» .entry)) (now («provider_info» .entry)) (now (label .entry)) (now (extension .entry)) (now (body .entry))) (now (out .entry)) ⌝ }
+    ensures { λ r. ⌜ r ≡ writeAnswer (lent values «sender_id» «encryption_key» signature «sender_cert» «provider_info» label extension body) (now (out .entry)) ⌝ }
+    ensures { λ _. ⌜ now (out .exit) ≡ writeBytes (lent values «sender_id» «encryption_key» signature «sender_cert» «provider_info» label extension body) (now (out .entry)) ⌝ }
 {
     let judged = judge(
         values,
@@ -211,7 +209,6 @@ pub fn write_section(
     }
     write_judged(
         values,
-        correlation_id,
         sender_id,
         encryption_key,
         signature,

@@ -69,7 +69,7 @@ bool copies_agree(const section *l, uint8_t *out, uint8_t *tuned_out, size_t len
 bool writings_agree(const given *l, uint8_t *out, uint8_t *tuned_out, size_t length)
 {
     fill(out, tuned_out, length);
-    ugb_output library = write_given(ugb_write_section, l, out, length);
+    ugb_output library = write_given(ugb_write_section_positional, l, out, length);
     ugb_output tuned = write_given(tuned_write_section, l, tuned_out, length);
     return same_output(&library, &tuned) && memcmp(out, tuned_out, length) == 0;
 }

@@ -60,7 +60,7 @@ CALL(call_summarize, ugb_summarize(SECTION, FIRST))
 CALL(call_same_summary, ugb_same_summary(SECTION, SECTION, FIRST))
 CALL(call_label_shown, ugb_label_shown(SECTION, FIRST))
 CALL(call_support_copy, ugb_support_copy(SECTION, FIRST, OUT))
-CALL(call_write, write_given(ugb_write_section, i->given, OUT))
+CALL(call_write, write_given(ugb_write_section_positional, i->given, OUT))
 CALL(call_send, send_sample(OUT))
 CALL(call_defaulted, defaulted_sample())
 CALL(call_read_image, ugb_read_image(image_sample.first, image_sample.length))
@@ -101,7 +101,7 @@ int main(void)
 {
     input *secured = &inputs[SECURED];
     for (int i = 0; i < INPUTS; i++)
-        inputs[i].s_length = write_given(ugb_write_section, inputs[i].given, inputs[i].s, ROOM).length;
+        inputs[i].s_length = write_given(ugb_write_section_positional, inputs[i].given, inputs[i].s, ROOM).length;
 
     count_sections("read", call_read);
     count_sections("summarize", call_summarize);

@@ -29,23 +29,21 @@ static const uint16_t label[LABEL_UNITS] = {[0 ... LABEL_UNITS - 2] = 'x'};
         .privacy_level = 1,                                                                                            \
         .hash_algorithm = 0x8003,                                                                                      \
         .encryption_algorithm = 0x6801,                                                                                \
+        .correlation_id = {[0 ... 19] = 9},                                                                            \
     })
 
 const given plain_sample = {
     .values = VALUES(false, BODY),
-    .correlation_id = correlation_id,
     .body = {pattern, BODY},
 };
 
 const given long_sample = {
     .values = VALUES(false, LONG_BODY),
-    .correlation_id = correlation_id,
     .body = {pattern, LONG_BODY},
 };
 
 const given secured_sample = {
     .values = VALUES(true, BODY),
-    .correlation_id = correlation_id,
     .identity = {identity, sizeof identity},
     .key = {pattern, 128},
     .signature = {pattern, SIGNATURE},

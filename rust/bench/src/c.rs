@@ -42,7 +42,6 @@ impl<'a> Section<'a> {
 pub struct Given<'a> {
     /// The numbers stand first in the values, and lie as in C.
     values: *const c_void,
-    correlation_id: *const u8,
     parts: [Bytes<'a>; 8],
 }
 
@@ -61,7 +60,6 @@ impl<'a> Given<'a> {
         ];
         Self {
             values: ptr::from_ref(values).cast(),
-            correlation_id: values.correlation_id.as_ptr(),
             parts: parts.map(Bytes::from),
         }
     }

@@ -137,6 +137,7 @@ pub(crate) struct SectionValues {
     pub privacy_level: u32,
     pub hash_algorithm: u32,
     pub encryption_algorithm: u32,
+    pub correlation_id: [u8; 20],
 }
 
 #[repr(C)]
@@ -177,10 +178,10 @@ const _: () = {
     assert!(size_of::<Summarized>() == 288 && size_of::<Reading>() == 312);
     assert!(size_of::<Label>() == 24 && offset_of!(Label, part) == 8);
     assert!(size_of::<Output>() == 24);
-    assert!(size_of::<SectionValues>() == 40);
+    assert!(size_of::<SectionValues>() == 56);
     assert!(offset_of!(SectionValues, message_class) == 6);
     assert!(offset_of!(SectionValues, allocation_body_size) == 16);
-    assert!(offset_of!(SectionValues, encryption_algorithm) == 32);
+    assert!(offset_of!(SectionValues, correlation_id) == 36);
     assert!(size_of::<QueueFormat>() == 2);
     assert!(size_of::<ImageRead>() == 56 && offset_of!(ImageRead, fixed) == 24);
 };
@@ -197,7 +198,7 @@ macro_rules! numbers_first {
 
 numbers_first! {
     security_first security_flags flags message_class body_type application_tag allocation_body_size
-    privacy_level hash_algorithm encryption_algorithm
+    privacy_level hash_algorithm encryption_algorithm correlation_id
 }
 
 extern "C" {
@@ -218,9 +219,8 @@ extern "C" {
         out: *mut u8,
         out_length: usize,
     ) -> Output;
-    fn ugb_write_section(
+    fn ugb_write_section_positional(
         values: SectionValues,
-        correlation_id: *const [u8; 20],
         sender_id: *const u8,
         sender_id_length: usize,
         encryption_key: *const u8,
@@ -308,9 +308,8 @@ fn numbers(values: &write::SectionValues<'_>) -> SectionValues {
 pub(crate) fn write_section(values: &write::SectionValues<'_>, out: &mut [u8]) -> Output {
     // SAFETY: pointers and lengths are those of slices, and `out` is borrowed alone.
     unsafe {
-        ugb_write_section(
+        ugb_write_section_positional(
             numbers(values),
-            &values.correlation_id,
             values.sender_id.as_ptr(),
             values.sender_id.len(),
             values.encryption_key.as_ptr(),

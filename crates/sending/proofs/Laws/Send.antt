@@ -98,14 +98,14 @@ gets q p e = go (requestSteps q) refl e
 
 -- what is given to the section writer
 pub given-made : (q : SendRequest) (p : Properties) (b : Bool) (id : List ℕ) {values : SectionValues} {made s l body : List ℕ}
-    → p ≡ properties q → b ≡ first q → values ≡ valuesOf p b → made ≡ correlationOf (q .values) id
+    → p ≡ properties q → b ≡ first q → made ≡ correlationOf (q .values) id → values ≡ valuesOf p b made
     → s ≡ signatureOf (q .values) (q .signature) → l ≡ label (q .title) → body ≡ bodyOf (q .values) (q .body)
-    → given values made (q .senderId) (q .encryptionKey) s (q .senderCert)
+    → given values (q .senderId) (q .encryptionKey) s (q .senderCert)
     (providerInfo (q .values) (q .signature) (q .providerName)) l (q .extension) body ≡ givenBy q id
 unfolding givenBy
-given-made q p b id ep eb ev ei es el ebody =
+given-made q p b id ep eb ei ev es el ebody =
     λ i.
-    given ((ev ∙ λ j. valuesOf (ep j) (eb j)) i) (ei i) (q .senderId) (q .encryptionKey) (es i) (q .senderCert)
+    given ((ev ∙ λ j. valuesOf (ep j) (eb j) (ei j)) i) (q .senderId) (q .encryptionKey) (es i) (q .senderCert)
     (providerInfo (q .values) (q .signature) (q .providerName)) (el i) (q .extension) (ebody i)
 
 -- the section writer can only refuse for the output

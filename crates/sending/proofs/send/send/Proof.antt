@@ -65,7 +65,7 @@ returns-2 c =
     let g = got known in
     let made =
     given-made (asked (start known)) _ _ (start known .args .correlation-id) (g .made) (first .security-first .ensures)
-    (cut .before .before .section-values .ensures) (cut .before .correlation-of .ensures) (cut .within .ensures ∙ g .signature)
+    (cut .before .before .correlation-of .ensures) (cut .before .section-values .ensures) (cut .within .ensures ∙ g .signature)
     (held _ (titled .write-label .ensures) ∙ ap labelWith (g .title)) (g .body) in
     let out = now (start known .args .out) in (
       written .0 ∙ ap (λ (x : Given). writeAnswer x out) made ∙ sent known .0,
@@ -86,8 +86,8 @@ send-spec =
     (λ c. got (search) .units)
     (λ c. search needs)
     (λ c κs. let g = got (search) in omega (arith, g .units, g .small))
-    (λ c κs. let g = got (search) in (g .kind, (g .acknowledge, g .class)))
     (λ c κs. search needs)
+    (λ c κs. let g = got (search) in (g .kind, (g .acknowledge, g .class)))
     (λ c κs. search needs)
     (λ c. omega (arith, label-small (search)))
     (λ c. let w = the tie.After-write-label (search) .write-label in sym (length-take-le (w .result .0) (w .last .1 .0) (omega (arith, label-small (search)))))

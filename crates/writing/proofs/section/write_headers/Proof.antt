@@ -25,7 +25,7 @@ use Rattle.writing.proofs.section.write_headers.Tie as tie
 
 -- the section that is written
 abbrev section : tie.Start → Given
-section c = let a = c .args in given (a .values) (a .correlation-id) (now (a .sender-id)) (now (a .encryption-key)) (now (a .signature)) (now (a .sender-cert)) (now (a .provider-info)) (now (a .label)) (now (a .extension)) (now (a .body))
+section c = let a = c .args in given (a .values) (now (a .sender-id)) (now (a .encryption-key)) (now (a .signature)) (now (a .sender-cert)) (now (a .provider-info)) (now (a .label)) (now (a .extension)) (now (a .body))
 
 -- what stands first, by a test that was made
 headed : {first : Bool} {now : List ℕ} (b : Bool) (bs out : List ℕ) → first ≡ b → now ≡ over (cond b bs []) out → now ≡ over (cond first bs []) out
@@ -83,7 +83,7 @@ write-properties-requires c κs =
 
 -- the MessagePropertiesHeader of fields that are those given
 properties-written : (g : Given) (f : PropertiesFields) (out now : List ℕ) → f ≡ propertiesGiven g
-    → now ≡ over (paddedPart (rowBytes propertiesRow (fixed f (g .correlationId) (g .values .«application_tag»)) ++ (g .label ++ (g .extension ++ g .body)))) out
+    → now ≡ over (paddedPart (rowBytes propertiesRow (fixed f (g .values .«correlation_id») (g .values .«application_tag»)) ++ (g .label ++ (g .extension ++ g .body)))) out
     → now ≡ over (propertiesBytes g) out
 unfolding propertiesBytes propertiesFixed
 properties-written g f out now e w = rw (← e) w
@@ -96,10 +96,12 @@ returns c =
     let joined-at = the tie.Joined1 (search) in
     let start = begun joined-at in
     let g = section start in
-    let rest = propertiesBytes g in
-    written-rest (start .args .start .0) (length rest) rest (written .last .1 .1 .1 .1 .1 .1 .0) (joined joined-at) refl refl
-    (omega (arith, start .pre .room)) (properties-written g _ _ _ (made .properties-given .ensures) (written .ensures))
-    .bytes
+    let rest = propertiesBytes g in (
+      written-rest (start .args .start .0) (length rest) rest (written .last .1 .1 .1 .1 .1 .1 .0) (joined joined-at) refl refl
+          (omega (arith, start .pre .room)) (properties-written g _ _ _ (made .properties-given .ensures) (written .ensures .0))
+          .bytes,
+      written .ensures .1,
+    )
 
 pub write-headers-spec : {M : Type 1} → statement M
 write-headers-spec =

@@ -23,7 +23,7 @@ use Rattle.writing.proofs.section.write_judged.Tie as tie
 
 -- the section that is to be written
 abbrev section : tie.Start → Given
-section c = let a = c .args in given (a .values) (a .correlation-id) (now (a .sender-id)) (now (a .encryption-key)) (now (a .signature)) (now (a .sender-cert)) (now (a .provider-info)) (now (a .label)) (now (a .extension)) (now (a .body))
+section c = let a = c .args in given (a .values) (now (a .sender-id)) (now (a .encryption-key)) (now (a .signature)) (now (a .sender-cert)) (now (a .provider-info)) (now (a .label)) (now (a .extension)) (now (a .body))
 
 -- where its MessagePropertiesHeader begins, and where it ends
 started : (c : tie.Start) → c .args .start .0 ≡ startOf (c .args .values .«security_first») (securityGiven (section c))
@@ -64,10 +64,11 @@ returns-2 c =
     let out = now (a .out) in
     let none = eq-eqb (writeRefusal g .number) 0 (start .pre .0) in
     let room = le-ltb (length out) (layoutLength g) (omega (arith, ended end)) in
-    let n = length-section g (start .good .1 .0 .1 .0 .1) (start .pre .0) in
+    let written = the tie.After-write-headers (search) .write-headers .ensures in
+    let n = length-section g (written .1) (start .pre .0) in
     let length : _≡_ {A = Bytes} (end .section-end .result) (record { 0 = layoutLength g }) = λ i. record { 0 = ended end i } in (
       rw (none, room, length),
-      rw (none, room) (the tie.After-write-headers (search) .write-headers .ensures ∙ ap (λ (k : ℕ). sectionBytes g ++ drop k out) n),
+      rw (none, room) (written .0 ∙ ap (λ (k : ℕ). sectionBytes g ++ drop k out) n),
     )
 
 pub write-judged-spec : {M : Type 1} → statement M

@@ -12,7 +12,7 @@ use Rattle.writing.proofs.section.write_section.Tie as tie
 
 -- the section that is to be written
 abbrev section : tie.Start → Given
-section c = let a = c .args in given (a .values) (a .correlation-id) (now (a .sender-id)) (now (a .encryption-key)) (now (a .signature)) (now (a .sender-cert)) (now (a .provider-info)) (now (a .label)) (now (a .extension)) (now (a .body))
+section c = let a = c .args in given (a .values) (now (a .sender-id)) (now (a .encryption-key)) (now (a .signature)) (now (a .sender-cert)) (now (a .provider-info)) (now (a .label)) (now (a .extension)) (now (a .body))
 
 returns : tie.Need-returns
 unfolding writeAnswer writeBytes

@@ -216,9 +216,8 @@ fn no_defaulted() -> UgbProperties
 }
 
 #[no_mangle]
-pub extern "C" fn ugb_defaulted(
+pub extern "C" fn ugb_defaulted_positional(
     request: UgbRequest,
-    correlation_id: &CorrelationId,
     title: &[u16],
     sender_id: &[u8],
     encryption_key: &[u8],
@@ -228,9 +227,10 @@ pub extern "C" fn ugb_defaulted(
     extension: &[u8],
     body: &[u8],
 ) -> UgbDefaulted
-    ensures { λ r. ⌜ r ≡ defaultedAnswer (sendRequest (requestOf request) title «sender_id» «encryption_key» signature «sender_cert» «provider_name» extension body) (now («correlation_id» .entry)) ⌝ }
+    ensures { λ r. ⌜ r ≡ defaultedAnswer (sendRequest (requestOf request) title «sender_id» «encryption_key» signature «sender_cert» «provider_name» extension body) (request .«correlation_id») ⌝ }
 {
     let given = request_of(request);
+    let correlation_id = request.correlation_id;
     match defaulted(
         given,
         title,
@@ -250,7 +250,7 @@ pub extern "C" fn ugb_defaulted(
         Defaulted::Properties(p) => UgbDefaulted {
             refusal: no_refusal(),
             properties: properties_answer(p),
-            correlation_id: correlation_of(given, *correlation_id),
+            correlation_id: correlation_of(given, correlation_id),
         },
     }
 }

@@ -2,12 +2,12 @@
 use borrow.Author.Needs.{needs}
 use Rattle.octets.proofs.Laws.Steps.{the}
 use Rattle.ugbariteyo.specs.Defaulted.{answerWith, defaultedAnswer}
-use Rattle.ugbariteyo.proofs.defaulted.ugb_defaulted.Statement.{statement}
-use Rattle.ugbariteyo.proofs.defaulted.ugb_defaulted.Tie as tie
+use Rattle.ugbariteyo.proofs.defaulted.ugb_defaulted_positional.Statement.{statement}
+use Rattle.ugbariteyo.proofs.defaulted.ugb_defaulted_positional.Tie as tie
 
-pub ugb-defaulted-spec : {M : Type 1} → statement M
+pub ugb-defaulted-positional-spec : {M : Type 1} → statement M
 unfolding defaultedAnswer answerWith
-ugb-defaulted-spec =
+ugb-defaulted-positional-spec =
     tie.close
     (tie.spec
     (λ c κs. search needs)

@@ -1,13 +1,13 @@
 // Reads a file of records on standard input and prints a line for each, as 01 says. Files of any length, in bounded memory.
 use libc::STDIN_FILENO;
 use libc::STDOUT_FILENO;
+use records::head::HEAD;
+use records::head::LONGEST;
 use records::line::LINE_ROOM;
 use records::line::write_end_line;
 use records::line::write_header_line;
 use records::line::write_line;
 use records::line::write_stop_line;
-use records::record::HEAD;
-use records::record::LONGEST;
 use records::record::Next;
 use records::record::next_record;
 use rules::section::Output;

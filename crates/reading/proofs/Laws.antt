@@ -1,3 +1,4 @@
 pub mod Decided
 pub mod Fields
+pub mod Passed
 pub mod Same

@@ -1,3 +1,4 @@
 pub mod Decimal
+pub mod Head
 pub mod Piece
 pub mod Record

@@ -1,4 +1,5 @@
 pub mod Decimal
+pub mod Head
 pub mod Line
 pub mod Listing
 pub mod Record

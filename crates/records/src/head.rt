@@ -1,0 +1,58 @@
+// The head of a record of the listing program's file: 8 bytes, and the section behind them.
+use octets::count::Bytes;
+use octets::number::u32_at;
+ghost use mathlib.Core.Path.{_≡_};
+ghost use Rattle.records.specs.Head.{nextHead};
+
+pub const HEAD: usize = 8;
+
+// The longest section that a record may hold.
+pub const LONGEST: usize = 32768;
+
+// `length` is the section's.
+pub struct Head {
+    pub security_first: bool,
+    pub length: Bytes,
+}
+
+// `End` where the file ends behind a whole record, `Stop` at a wrong or cut head or a cut section.
+pub enum NextHead {
+    End,
+    Stop,
+    Found(Head),
+}
+
+// The head at the first byte of `s`, the rest of the file.
+pub fn next_head(s: &[u8]) -> NextHead
+    ensures { λ r. ⌜ r ≡ nextHead (now (s .entry)) ⌝ }
+{
+    if s.len() == 0 {
+        return NextHead::End;
+    }
+    if s.len() < HEAD {
+        return NextHead::Stop;
+    }
+    if s[0] != 0x57 {
+        return NextHead::Stop;
+    }
+    if s[1] != 0x52 {
+        return NextHead::Stop;
+    }
+    if 1 < s[2] {
+        return NextHead::Stop;
+    }
+    if s[3] != 0 {
+        return NextHead::Stop;
+    }
+    let length = u32_at(s, Bytes(4)) as usize;
+    if LONGEST < length {
+        return NextHead::Stop;
+    }
+    if s.len() - HEAD < length {
+        return NextHead::Stop;
+    }
+    NextHead::Found(Head {
+        security_first: s[2] == 1,
+        length: Bytes(length),
+    })
+}

@@ -76,42 +76,50 @@ fn flush(output: &[u8], used: Bytes) -> bool
     put(&output[..end])
 }
 
-// Adds a line; where it does not fit, those before it are handed on first. (No line is longer than the buffer.)
-fn add_line(row: Row, output: &mut [u8], used: Bytes) -> Lines
+// Hands the lines on, and adds a line as the first. (No line is longer than the buffer.)
+fn add_first_line(row: Row, output: &mut [u8], used: Bytes) -> Lines
     requires { ⌜ used .0 ≤ length (now output) ⌝ }
     ensures { λ r. ⌜ r .used .0 ≤ length (now (output .entry)) ⌝ }
 {
-    if let Output::Written(more) = append_line(row, output, used) {
-        return Lines {
-            used: more,
-            has_failed: false,
-        };
-    }
     if !flush(output, used) {
         return Lines {
             used,
             has_failed: true,
         };
     }
-    if let Output::Written(first) = append_line(row, output, Bytes(0)) {
-        return Lines {
+    match append_line(row, output, Bytes(0)) {
+        Output::Written(first) => Lines {
             used: first,
             has_failed: false,
-        };
-    }
-    Lines {
-        used: Bytes(0),
-        has_failed: true,
+        },
+        Output::Refused(_) => Lines {
+            used: Bytes(0),
+            has_failed: true,
+        },
     }
 }
 
-// Adds the last line, and hands all lines on.
+// Adds a line; where it does not fit, those before it are handed on first.
+fn add_line(row: Row, output: &mut [u8], used: Bytes) -> Lines
+    requires { ⌜ used .0 ≤ length (now output) ⌝ }
+    ensures { λ r. ⌜ r .used .0 ≤ length (now (output .entry)) ⌝ }
+{
+    match append_line(row, output, used) {
+        Output::Written(more) => Lines {
+            used: more,
+            has_failed: false,
+        },
+        Output::Refused(_) => add_first_line(row, output, used),
+    }
+}
+
+// Hands the lines on, and then the last one, which so is printed only where those before it were.
 fn finish(row: Row, output: &mut [u8], used: Bytes)
     requires { ⌜ used .0 ≤ length (now output) ⌝ }
 {
-    let lines = add_line(row, output, used);
-    if !lines.has_failed {
-        flush(output, lines.used);
+    let last = add_first_line(row, output, used);
+    if !last.has_failed {
+        flush(output, last.used);
     }
 }
 
@@ -124,7 +132,7 @@ fn list(input: &mut [u8], output: &mut [u8]) {
         is_over: false,
         has_failed: false,
     };
-    let mut lines = add_line(Row::Header, output, Bytes(0));
+    let mut lines = add_first_line(Row::Header, output, Bytes(0));
     let mut number = 0;
     while number < u64::MAX {
         window = refill(input, window);

@@ -238,7 +238,7 @@ typedef struct ugb_output {
     size_t length;       /* how many bytes were written; 0 where refused */
 } ugb_output;
 
-/* The support copy: the section with every private bit zero. Refused as ugb_summarize is, then with 13 where out_length
+/* The support copy: the section with every private bit zero. Refused as ugb_read is, then with 13 where out_length
  * is below the section's length. */
 ugb_output ugb_support_copy(const uint8_t *s, size_t s_length, bool security_first, uint8_t *out, size_t out_length);
 

@@ -65,7 +65,7 @@ mod request;
 mod section;
 mod write;
 
-pub(crate) use queue::{read_image, write_image, ImageRead, QueueFormat};
+pub(crate) use queue::{read_image, write_image, QueueFormat};
 pub(crate) use record::{next_record, Record};
 pub(crate) use request::{defaulted, send, Defaulted};
 pub(crate) use section::{

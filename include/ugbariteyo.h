@@ -160,12 +160,12 @@ typedef struct ugb_label {
 /* The full reading of the section at the first of s_length bytes. Bytes behind the section are not read. */
 ugb_reading ugb_read(const uint8_t *s, size_t s_length, bool security_first);
 
-/* The summary of that section. Refused exactly as ugb_read is. */
+/* The summary alone. */
 static inline ugb_summarized ugb_summarize(const uint8_t *s, size_t s_length, bool security_first)
 {
-    ugb_reading r = ugb_read(s, s_length, security_first);
-    ugb_summarized m = { r.refusal, r.section.summary };
-    return m;
+    ugb_reading reading = ugb_read(s, s_length, security_first);
+    ugb_summarized answer = {reading.refusal, reading.section.summary};
+    return answer;
 }
 
 /* Whether both inputs are accepted, with the same summary, label and provider name by content: exactly when they agree

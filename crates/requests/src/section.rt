@@ -1,17 +1,15 @@
-// The section that a request would become: the sizes of its parts, and step 8.
+// The section that a request would become: the sizes of its parts, and whether it is above the limit (8 in step 6).
 use crate::request::Body;
 use crate::request::Request;
 use crate::signature::kept_bytes;
 use crate::text::label_units;
 use octets::count::Bytes;
-use octets::count::Units;
 use rules::properties::PropertiesFields;
 use rules::properties::section_end;
 use rules::section::LIMIT;
 use rules::security::SecurityFields;
 use rules::security::security_length;
 ghost use mathlib.Core.Path.{_≡_};
-ghost use mathlib.Core.Bool.{false};
 ghost use Prim.Native.Nat.{_+_};
 ghost use lib.ListN.{length};
 ghost use lib.Dec.{ltb};
@@ -20,7 +18,6 @@ ghost use Rattle.rules.specs.Refusal.{limit};
 ghost use Rattle.requests.specs.Defaults.{allocation, bodyOf};
 ghost use Rattle.requests.specs.Request.{sendRequest};
 ghost use Rattle.requests.specs.Section.{providerInfo, sectionLength, securityFirst};
-ghost use Rattle.requests.specs.Steps.{providerFails};
 
 // An absent body is empty, whatever is lent.
 pub(crate) fn body_size(request: Request, body: &[u8]) -> Bytes
@@ -70,9 +67,7 @@ pub fn security_first(
 }
 
 // Provider info is written only for a signature by another provider: its type, and its name with a null.
-// Step 4 has passed, so the name's count fits.
 fn provider_info_size(request: Request, signature: &[u8], provider_name: &[u16]) -> Bytes
-    requires { ⌜ providerFails request (now signature) (now «provider_name») ≡ false ⌝ }
     ensures { λ r. ⌜ r .0 ≡ length (providerInfo request (now (signature .entry)) (now («provider_name» .entry))) ⌝ }
 {
     if signature.len() == 0 {
@@ -81,8 +76,7 @@ fn provider_info_size(request: Request, signature: &[u8], provider_name: &[u16])
     if request.default_provider {
         return Bytes(0);
     }
-    let name = Units(provider_name.len() as u32 + 1);
-    Bytes(4 + name.bytes().0)
+    Bytes(6 + 2 * provider_name.len())
 }
 
 // Whether a MessagePropertiesHeader of these sizes, at `at`, ends above the limit.
@@ -92,7 +86,7 @@ fn ends_above(sizes: PropertiesFields, at: Bytes) -> bool
     LIMIT < section_end(sizes, at).0
 }
 
-// 8. A header's length depends on its sizes alone.
+// 6: 8. A header's length depends on its sizes alone.
 pub(crate) fn above_the_limit(
     request: Request,
     title: &[u16],
@@ -104,7 +98,6 @@ pub(crate) fn above_the_limit(
     extension: &[u8],
     body: &[u8],
 ) -> bool
-    requires { ⌜ providerFails request (now signature) (now «provider_name») ≡ false ⌝ }
     ensures { λ r. ⌜ r ≡ ltb limit (sectionLength (sendRequest request title «sender_id» «encryption_key» signature «sender_cert» «provider_name» extension body)) ⌝ }
 {
     let properties = PropertiesFields {

@@ -204,6 +204,21 @@ pub(crate) fn request_steps(
 ) -> Checked
     ensures { λ r. ⌜ r ≡ requestSteps (sendRequest request title «sender_id» «encryption_key» signature «sender_cert» «provider_name» extension body) ⌝ }
 {
+    // The three tests that take most are made before the first answer, so that each becomes part of this function: behind
+    // many answers a call stays a call, and the request is copied for it.
+    let identity = identity_fails(request, sender_id);
+    let provider = provider_fails(request, signature, provider_name);
+    let above = above_the_limit(
+        request,
+        title,
+        sender_id,
+        encryption_key,
+        signature,
+        sender_cert,
+        provider_name,
+        extension,
+        body,
+    );
     if out_of_range(request) {
         refused(refusal::VALUE_OUT_OF_RANGE)
     } else if class_unlisted(request) {
@@ -216,9 +231,9 @@ pub(crate) fn request_steps(
         refused(refusal::ALGORITHM_ABSENT)
     } else if hash_missing(request, signature) {
         refused(refusal::HASH_ABSENT)
-    } else if identity_fails(request, sender_id) {
+    } else if identity {
         refused(refusal::REQUEST_IDENTITY)
-    } else if provider_fails(request, signature, provider_name) {
+    } else if provider {
         refused(refusal::REQUEST_PROVIDER)
     } else if split_fails(request, signature) {
         refused(refusal::SPLIT_NUMBER)
@@ -226,17 +241,7 @@ pub(crate) fn request_steps(
         refused(refusal::PART_TOO_LARGE)
     } else if allocation_fails(request, body) {
         refused(refusal::ALLOCATION)
-    } else if above_the_limit(
-        request,
-        title,
-        sender_id,
-        encryption_key,
-        signature,
-        sender_cert,
-        provider_name,
-        extension,
-        body,
-    ) {
+    } else if above {
         refused(refusal::ABOVE_THE_LIMIT)
     } else {
         Checked::Passed

@@ -49,7 +49,8 @@ pub fn security_first(
     signature: &[u8],
     sender_cert: &[u8],
 ) -> bool
-    ensures { λ r. ⌜ r ≡ securityFirst request (now («sender_id» .entry)) (now («encryption_key» .entry)) (now (signature .entry)) (now («sender_cert» .entry)) ⌝ }
+    ensures { λ r. ⌜ r ≡ securityFirst request (now («sender_id» .entry)) (now («encryption_key» .entry))
+        (now (signature .entry)) (now («sender_cert» .entry)) ⌝ }
 {
     if sender_id.len() != 0 {
         return true;
@@ -98,7 +99,8 @@ pub(crate) fn above_the_limit(
     extension: &[u8],
     body: &[u8],
 ) -> bool
-    ensures { λ r. ⌜ r ≡ ltb limit (sectionLength (sendRequest request title «sender_id» «encryption_key» signature «sender_cert» «provider_name» extension body)) ⌝ }
+    ensures { λ r. ⌜ r ≡ ltb limit (sectionLength (sendRequest request title «sender_id» «encryption_key»
+        signature «sender_cert» «provider_name» extension body)) ⌝ }
 {
     let properties = PropertiesFields {
         flags: 0,

@@ -2,9 +2,9 @@
 use crate::units::write_label;
 use crate::units::write_provider_info;
 use crate::values::section_values;
+use defaulting::defaulted::correlation_of;
+use defaulting::defaulted::defaulted;
 use octets::part::within;
-use requests::defaulted::correlation_of;
-use requests::defaulted::defaulted;
 use requests::properties::Defaulted;
 use requests::request::Request;
 use requests::section::security_first;

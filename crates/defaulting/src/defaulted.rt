@@ -65,7 +65,8 @@ fn properties_of(
     signature: &[u8],
     body: &[u8],
 ) -> Properties
-    ensures { λ r. ⌜ r ≡ propertiesOf request (now (title .entry)) (now («encryption_key» .entry)) (now (signature .entry)) (now (body .entry)) ⌝ }
+    ensures { λ r. ⌜ r ≡ propertiesOf request (now (title .entry)) (now («encryption_key» .entry))
+        (now (signature .entry)) (now (body .entry)) ⌝ }
 {
     Properties {
         handling: handling_of(request),
@@ -97,7 +98,8 @@ pub fn defaulted(
     extension: &[u8],
     body: &[u8],
 ) -> Defaulted
-    ensures { λ r. ⌜ r ≡ defaulted (sendRequest request title «sender_id» «encryption_key» signature «sender_cert» «provider_name» extension body) ⌝ }
+    ensures { λ r. ⌜ r ≡ defaulted (sendRequest request title «sender_id» «encryption_key»
+        signature «sender_cert» «provider_name» extension body) ⌝ }
 {
     match request_steps(
         request,

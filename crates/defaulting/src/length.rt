@@ -1,6 +1,5 @@
 // The length of the section that a request would become, from the sizes of its parts.
 use octets::count::Bytes;
-use octets::count::Units;
 use requests::request::Request;
 use requests::section::body_size;
 use requests::section::security_first;
@@ -12,7 +11,6 @@ use rules::section::LIMIT;
 use rules::security::SecurityFields;
 use rules::security::security_length;
 ghost use mathlib.Core.Path.{_≡_};
-ghost use mathlib.Core.Bool.{false};
 ghost use Prim.Native.Nat.{_+_};
 ghost use lib.ListN.{length};
 ghost use lib.Dec.{ltb};
@@ -20,12 +18,9 @@ ghost use Rattle.rules.specs.Properties.{propertiesLength};
 ghost use Rattle.rules.specs.Refusal.{limit};
 ghost use Rattle.requests.specs.Request.{sendRequest};
 ghost use Rattle.requests.specs.Section.{providerInfo, sectionLength};
-ghost use Rattle.requests.specs.Steps.{providerFails};
 
 // Provider info is written only for a signature by another provider: its type, and its name with a null.
-// Step 4 has passed, so the name's count fits.
 fn provider_info_size(request: Request, signature: &[u8], provider_name: &[u16]) -> Bytes
-    requires { ⌜ providerFails request (now signature) (now «provider_name») ≡ false ⌝ }
     ensures { λ r. ⌜ r .0 ≡ length (providerInfo request (now (signature .entry)) (now («provider_name» .entry))) ⌝ }
 {
     if signature.len() == 0 {
@@ -34,8 +29,7 @@ fn provider_info_size(request: Request, signature: &[u8], provider_name: &[u16])
     if request.default_provider {
         return Bytes(0);
     }
-    let name = Units(provider_name.len() as u32 + 1);
-    Bytes(4 + name.bytes().0)
+    Bytes(6 + 2 * provider_name.len())
 }
 
 // Whether a MessagePropertiesHeader of these sizes, at `at`, ends above the limit.
@@ -57,8 +51,8 @@ pub(crate) fn above_the_limit(
     extension: &[u8],
     body: &[u8],
 ) -> bool
-    requires { ⌜ providerFails request (now signature) (now «provider_name») ≡ false ⌝ }
-    ensures { λ r. ⌜ r ≡ ltb limit (sectionLength (sendRequest request title «sender_id» «encryption_key» signature «sender_cert» «provider_name» extension body)) ⌝ }
+    ensures { λ r. ⌜ r ≡ ltb limit (sectionLength (sendRequest request title «sender_id» «encryption_key»
+        signature «sender_cert» «provider_name» extension body)) ⌝ }
 {
     let properties = PropertiesFields {
         flags: 0,

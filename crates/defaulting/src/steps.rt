@@ -23,7 +23,8 @@ ghost use lib.Dec.{ltb};
 ghost use Rattle.rules.specs.Listed.{classes, listed};
 ghost use Rattle.requests.specs.Defaults.{class, privacy};
 ghost use Rattle.requests.specs.Request.{sendRequest};
-ghost use Rattle.requests.specs.Steps.{algorithmMissing, allocationFails, directPrivacy, hashMissing, identityFails, isOne, outOfRange, providerFails, refused, requestSteps, splitFails, tooLarge};
+ghost use Rattle.requests.specs.Steps.{algorithmMissing, allocationFails, directPrivacy, hashMissing, identityFails};
+ghost use Rattle.requests.specs.Steps.{isOne, outOfRange, providerFails, refused, requestSteps, splitFails, tooLarge};
 
 // 1, of the values as they were given: a transaction changes delivery only later.
 fn out_of_range(request: Request) -> bool
@@ -158,7 +159,8 @@ fn split_fails(request: Request, signature: &[u8]) -> bool
 
 // 6: key, signature as cut, certificate
 fn too_large(request: Request, encryption_key: &[u8], signature: &[u8], sender_cert: &[u8]) -> bool
-    ensures { λ r. ⌜ r ≡ tooLarge request (now («encryption_key» .entry)) (now (signature .entry)) (now («sender_cert» .entry)) ⌝ }
+    ensures { λ r. ⌜ r
+        ≡ tooLarge request (now («encryption_key» .entry)) (now (signature .entry)) (now («sender_cert» .entry)) ⌝ }
 {
     if 65535 < encryption_key.len() {
         return true;
@@ -202,8 +204,24 @@ pub(crate) fn request_steps(
     extension: &[u8],
     body: &[u8],
 ) -> Checked
-    ensures { λ r. ⌜ r ≡ requestSteps (sendRequest request title «sender_id» «encryption_key» signature «sender_cert» «provider_name» extension body) ⌝ }
+    ensures { λ r. ⌜ r ≡ requestSteps (sendRequest request title «sender_id» «encryption_key»
+        signature «sender_cert» «provider_name» extension body) ⌝ }
 {
+    // The three tests that take most are made before the first answer, so that each becomes part of this function:
+    // behind many answers a call stays a call, and the request is copied for it.
+    let identity = identity_fails(request, sender_id);
+    let provider = provider_fails(request, signature, provider_name);
+    let above = above_the_limit(
+        request,
+        title,
+        sender_id,
+        encryption_key,
+        signature,
+        sender_cert,
+        provider_name,
+        extension,
+        body,
+    );
     if out_of_range(request) {
         refused(refusal::VALUE_OUT_OF_RANGE)
     } else if class_unlisted(request) {
@@ -216,9 +234,9 @@ pub(crate) fn request_steps(
         refused(refusal::ALGORITHM_ABSENT)
     } else if hash_missing(request, signature) {
         refused(refusal::HASH_ABSENT)
-    } else if identity_fails(request, sender_id) {
+    } else if identity {
         refused(refusal::REQUEST_IDENTITY)
-    } else if provider_fails(request, signature, provider_name) {
+    } else if provider {
         refused(refusal::REQUEST_PROVIDER)
     } else if split_fails(request, signature) {
         refused(refusal::SPLIT_NUMBER)
@@ -226,17 +244,7 @@ pub(crate) fn request_steps(
         refused(refusal::PART_TOO_LARGE)
     } else if allocation_fails(request, body) {
         refused(refusal::ALLOCATION)
-    } else if above_the_limit(
-        request,
-        title,
-        sender_id,
-        encryption_key,
-        signature,
-        sender_cert,
-        provider_name,
-        extension,
-        body,
-    ) {
+    } else if above {
         refused(refusal::ABOVE_THE_LIMIT)
     } else {
         Checked::Passed

@@ -38,7 +38,8 @@ pub fn security_first(
     signature: &[u8],
     sender_cert: &[u8],
 ) -> bool
-    ensures { λ r. ⌜ r ≡ securityFirst request (now («sender_id» .entry)) (now («encryption_key» .entry)) (now (signature .entry)) (now («sender_cert» .entry)) ⌝ }
+    ensures { λ r. ⌜ r ≡ securityFirst request (now («sender_id» .entry)) (now («encryption_key» .entry))
+        (now (signature .entry)) (now («sender_cert» .entry)) ⌝ }
 {
     if sender_id.len() != 0 {
         return true;

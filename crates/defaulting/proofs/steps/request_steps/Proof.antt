@@ -1,7 +1,7 @@
 -- Each return is that of the first step that fails. From two places on, the steps before them are passed at once.
 use Prim.Native.Nat.{ℕ}
 use denote.Ref.{now}
-use mathlib.Core.Path.{_≡_, sym, _∙_}
+use mathlib.Core.Path.{_≡_, _∙_}
 use borrow.Author.Needs.{needs}
 use lib.ListN.{drop}
 use Rattle.octets.proofs.Laws.Steps.{answers, call-false, call-true, passed, the}
@@ -74,7 +74,7 @@ request-steps-spec =
     (λ c κs. search needs)
     (λ c κs. search needs)
     (λ c κs. search needs)
-    (λ c κs. sym (call-false _ _ (the tie.After-provider-fails (search) .provider-fails .ensures) (search)))
+    (λ c κs. search needs)
     (λ c κs. search needs)
     (λ c. (search) ∙ past-none (search) .1 (refused 20) (search calls depth 20))
     (λ c. (search) ∙ past-none (search) .1 (refused 10) (search calls depth 20))

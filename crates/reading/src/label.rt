@@ -1,7 +1,6 @@
 // The label for display.
 use crate::properties::fields_at;
 use crate::section::judge;
-use crate::section::start_at;
 use crate::view::part_of;
 use octets::count::Bytes;
 use rules::layout::part;
@@ -15,10 +14,11 @@ ghost use Rattle.reading.specs.Label.{labelPart};
 pub fn label_part(s: &[u8], security_first: bool) -> Part
     ensures { λ r. ⌜ r ≡ labelPart (summarize «security_first» (now (s .entry))) ⌝ }
 {
-    if judge(s, security_first).number != refusal::PASSED {
+    let judged = judge(s, security_first);
+    if judged.number != refusal::PASSED {
         return part(Bytes(0), Bytes(0));
     }
-    let at = start_at(s, security_first);
+    let at = judged.place;
     let fields = fields_at(s, at);
     if fields.label_length.0 == 0 {
         return part(Bytes(0), Bytes(0));

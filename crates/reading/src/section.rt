@@ -53,7 +53,7 @@ fn header_number(s: &[u8], security_first: bool) -> u32
 }
 
 // Where the MessagePropertiesHeader begins, once S1 to S11 have passed.
-pub(crate) fn start_at(s: &[u8], security_first: bool) -> Bytes
+fn start_at(s: &[u8], security_first: bool) -> Bytes
     requires { ⌜ securityNumber «security_first» (now s) ≡ 0 ⌝ }
     ensures { λ r. ⌜ r .0 ≡ startAt «security_first» (now (s .entry)) ⌝ }
 {
@@ -63,8 +63,9 @@ pub(crate) fn start_at(s: &[u8], security_first: bool) -> Bytes
     Bytes(0)
 }
 
-// The refusal of the section at the input's first byte; its number is 0 where no step fails. The caller says whether a
-// SecurityHeader stands first. (A small answer: what was read is made from the bytes once they have passed.)
+// The refusal of the section at the input's first byte; its number is 0 where no step fails, and its place is then
+// where the MessagePropertiesHeader begins. The caller says whether a SecurityHeader stands first. (A small answer: what
+// was read is made from the bytes once they have passed.)
 pub fn judge(s: &[u8], security_first: bool) -> Refusal
     ensures { λ r. ⌜ r ≡ judge «security_first» (now (s .entry)) ⌝ }
 {

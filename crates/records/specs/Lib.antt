@@ -1,4 +1,5 @@
 pub mod Decimal
+pub mod Enough
 pub mod Head
 pub mod Line
 pub mod Listing

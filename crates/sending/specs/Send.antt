@@ -1,9 +1,10 @@
 -- 01, "Send requests": the section of a request, through the section writer, and what the sender answers.
 use Prim.Native.Nat.{ℕ}
 use mathlib.Core.Bool.{Bool, false, cond}
-use mathlib.Core.List.{List, _++_}
-use lib.ListN.{length, drop}
+use mathlib.Core.List.{List}
+use lib.ListN.{length}
 use lib.Dec.{ltb}
+use Rattle.rules.specs.Output.{writerOutput}
 use Rattle.rules.specs.Refusal.{bytes, refusal}
 use Rattle.rules.specs.declared.section.Output.{Output}
 use Rattle.rules.specs.declared.section.Output.the-variants.{Written, Refused as Output·Refused}
@@ -71,14 +72,9 @@ answerAfter q out (Defaulted·Properties p) =
     cond (ltb (length out) (sectionLength q)) (Output·Refused (refusal 13 0)) (Written (bytes (sectionLength q)))
 answerAfter q out (Defaulted·Refused r) = Output·Refused r
 
-unfoldable pub bytesAfter : SendRequest → List ℕ → List ℕ → Defaulted → List ℕ
-bytesAfter q correlationId out (Defaulted·Properties p) =
-    cond (ltb (length out) (sectionLength q)) out (sectionBytes (givenBy q correlationId) ++ drop (sectionLength q) out)
-bytesAfter q correlationId out (Defaulted·Refused r) = out
-
 -- what the sender answers, and what the lent output then holds
 unfoldable pub sendAnswer : SendRequest → List ℕ → Output
 sendAnswer q out = answerAfter q out (defaulted q)
 
 unfoldable pub sendBytes : SendRequest → List ℕ → List ℕ → List ℕ
-sendBytes q correlationId out = bytesAfter q correlationId out (defaulted q)
+sendBytes q correlationId out = writerOutput (sendAnswer q out) (sectionBytes (givenBy q correlationId)) out

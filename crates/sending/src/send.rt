@@ -2,9 +2,9 @@
 use crate::units::write_label;
 use crate::units::write_provider_info;
 use crate::values::section_values;
+use defaulting::defaulted::correlation_of;
+use defaulting::defaulted::defaulted;
 use octets::part::within;
-use requests::defaulted::correlation_of;
-use requests::defaulted::defaulted;
 use requests::properties::Defaulted;
 use requests::request::Request;
 use requests::section::security_first;
@@ -37,8 +37,10 @@ fn write_with_info(
     out: &mut [u8],
 ) -> Output
     requires { ⌜ length (providerInfo request (now signature) (now «provider_name»)) ≤ 2054 ⌝ }
-    ensures { λ r. ⌜ r ≡ writeAnswer (withInfo request signature «provider_name» values «sender_id» «encryption_key» kept «sender_cert» label extension body) (now (out .entry)) ⌝ }
-    ensures { λ _. ⌜ now (out .exit) ≡ writeBytes (withInfo request signature «provider_name» values «sender_id» «encryption_key» kept «sender_cert» label extension body) (now (out .entry)) ⌝ }
+    ensures { λ r. ⌜ r ≡ writeAnswer (withInfo request signature «provider_name» values «sender_id»
+        «encryption_key» kept «sender_cert» label extension body) (now (out .entry)) ⌝ }
+    ensures { λ _. ⌜ now (out .exit) ≡ writeBytes (withInfo request signature «provider_name» values «sender_id»
+        «encryption_key» kept «sender_cert» label extension body) (now (out .entry)) ⌝ }
 {
     if provider_name.len() <= 61 {
         let mut info = [0u8; 128];
@@ -87,8 +89,10 @@ pub fn send(
     body: &[u8],
     out: &mut [u8],
 ) -> Output
-    ensures { λ r. ⌜ r ≡ sendAnswer (sendRequest request title «sender_id» «encryption_key» signature «sender_cert» «provider_name» extension body) (now (out .entry)) ⌝ }
-    ensures { λ _. ⌜ now (out .exit) ≡ sendBytes (sendRequest request title «sender_id» «encryption_key» signature «sender_cert» «provider_name» extension body) «correlation_id» (now (out .entry)) ⌝ }
+    ensures { λ r. ⌜ r ≡ sendAnswer (sendRequest request title «sender_id» «encryption_key»
+        signature «sender_cert» «provider_name» extension body) (now (out .entry)) ⌝ }
+    ensures { λ _. ⌜ now (out .exit) ≡ sendBytes (sendRequest request title «sender_id» «encryption_key»
+        signature «sender_cert» «provider_name» extension body) «correlation_id» (now (out .entry)) ⌝ }
 {
     let properties = match defaulted(
         request,

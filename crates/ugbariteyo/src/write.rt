@@ -21,8 +21,10 @@ pub extern "C" fn ugb_write_section_positional(
     body: &[u8],
     out: &mut [u8],
 ) -> UgbOutput
-    ensures { λ r. ⌜ r ≡ outputAnswer (writeAnswer (lent values «sender_id» «encryption_key» signature «sender_cert» «provider_info» label extension body) (now (out .entry))) ⌝ }
-    ensures { λ _. ⌜ now (out .exit) ≡ writeBytes (lent values «sender_id» «encryption_key» signature «sender_cert» «provider_info» label extension body) (now (out .entry)) ⌝ }
+    ensures { λ r. ⌜ r ≡ outputAnswer (writeAnswer (lent values «sender_id» «encryption_key» signature
+        «sender_cert» «provider_info» label extension body) (now (out .entry))) ⌝ }
+    ensures { λ _. ⌜ now (out .exit) ≡ writeBytes (lent values «sender_id» «encryption_key» signature
+        «sender_cert» «provider_info» label extension body) (now (out .entry)) ⌝ }
 {
     output_answer(write_section(
         values,

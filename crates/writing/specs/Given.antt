@@ -40,7 +40,13 @@ given values senderId encryptionKey signature senderCert providerInfo label exte
 abbrev pub Lent : Type 0
 Lent = Both (RefT (List ℕ)) (RefT (List ℕ))
 
--- what a call is given, out of its parameters
+-- what a call is given, out of its parameters: as a `requires` has them, and as an `ensures` has them
+abbrev pub held : SectionValues → RefT (List ℕ) → RefT (List ℕ) → RefT (List ℕ) → RefT (List ℕ) → RefT (List ℕ)
+    → RefT (List ℕ) → RefT (List ℕ) → RefT (List ℕ) → Given
+held values senderId encryptionKey signature senderCert providerInfo label extension body =
+    given values (senderId .now) (encryptionKey .now) (signature .now) (senderCert .now) (providerInfo .now) (label .now)
+    (extension .now) (body .now)
+
 abbrev pub lent : SectionValues → Lent → Lent → Lent → Lent → Lent → Lent → Lent → Lent → Given
 lent values senderId encryptionKey signature senderCert providerInfo label extension body =
     given values (senderId .entry .now) (encryptionKey .entry .now) (signature .entry .now) (senderCert .entry .now)

@@ -2,9 +2,10 @@
 use Prim.Native.Nat.{ℕ, _+_, _%_}
 use mathlib.Core.Bool.{Bool, not, _||_, cond}
 use mathlib.Core.List.{List, [], _++_}
-use lib.ListN.{length, drop, replicate}
+use lib.ListN.{length, replicate}
 use lib.Dec.{eqb, ltb}
 use Rattle.octets.specs.Padding.{padding}
+use Rattle.rules.specs.Output.{writerOutput}
 use Rattle.rules.specs.Properties.{labelContents, propertiesLength, propertiesRow, propertiesSteps}
 use Rattle.rules.specs.Refusal.{bytes, firstOf, limit, refusal}
 use Rattle.rules.specs.Row.{rowBytes}
@@ -95,9 +96,6 @@ writeAnswer g out =
     (cond (ltb (length out) (layoutLength g)) (Refused (refusal 13 0))  -- 13
     (Written (bytes (layoutLength g))))
 
--- what the lent output then holds: a refused one as it was, "no output byte written"; else the section, and "bytes behind it stay"
+-- what the lent output then holds
 unfoldable pub writeBytes : Given → List ℕ → List ℕ
-writeBytes g out =
-    cond (not (eqb (writeRefusal g .number) 0)) out
-    (cond (ltb (length out) (layoutLength g)) out
-    (sectionBytes g ++ drop (layoutLength g) out))
+writeBytes g out = writerOutput (writeAnswer g out) (sectionBytes g) out

@@ -15,12 +15,12 @@ use rules::security::SecurityFields;
 use rules::security::security_length;
 ghost use mathlib.Core.Path.{_≡_};
 ghost use Prim.Native.Nat.{_+_, min};
-ghost use lib.ListN.{length};
 ghost use Rattle.octets.specs.Over.{over};
 ghost use Rattle.rules.specs.Refusal.{limit, refusal};
-ghost use Rattle.writing.specs.Given.{given, lent};
+ghost use Rattle.writing.specs.Given.{held, lent};
 ghost use Rattle.writing.specs.Laid.{SectionLaid};
-ghost use Rattle.writing.specs.Writing.{headerNumber, sectionBytes, startOf, writeAnswer, writeBytes, writeRefusal};
+ghost use Rattle.writing.specs.Writing.{headerNumber, sectionBytes, startOf};
+ghost use Rattle.writing.specs.Writing.{writeAnswer, writeBytes, writeRefusal};
 
 // 28 and the steps on the SecurityHeader, where one stands first.
 fn header_number(security_first: bool, f: SecurityFields, identity: &[u8], info: &[u8]) -> u32
@@ -54,7 +54,8 @@ fn judge(
     extension: &[u8],
     body: &[u8],
 ) -> Refusal
-    ensures { λ r. ⌜ r ≡ writeRefusal (lent values «sender_id» «encryption_key» signature «sender_cert» «provider_info» label extension body) ⌝ }
+    ensures { λ r. ⌜ r ≡ writeRefusal (lent values «sender_id» «encryption_key» signature
+        «sender_cert» «provider_info» label extension body) ⌝ }
 {
     let security = security_given(
         values.security_flags,
@@ -92,9 +93,10 @@ fn write_headers(
     start: Bytes,
     out: &mut [u8],
 )
-    requires { ⌜ SectionLaid (given values (now «sender_id») (now «encryption_key») (now signature) (now «sender_cert») (now «provider_info») (now label) (now extension) (now body)) (start .0) (now out) ⌝ }
-    ensures { λ _. ⌜ now (out .exit) ≡ over (sectionBytes (lent values «sender_id» «encryption_key» signature «sender_cert» «provider_info» label extension body)) (now (out .entry)) ⌝ }
-    ensures { λ _. ⌜ length (values .«correlation_id») ≡ 20 ⌝ }
+    requires { ⌜ SectionLaid (held values «sender_id» «encryption_key» signature
+        «sender_cert» «provider_info» label extension body) (start .0) (now out) ⌝ }
+    ensures { λ _. ⌜ now (out .exit) ≡ over (sectionBytes (lent values «sender_id» «encryption_key» signature
+        «sender_cert» «provider_info» label extension body)) (now (out .entry)) ⌝ }
 {
     let first = values.security_first;
     if first {
@@ -151,10 +153,12 @@ fn write_judged(
     start: Bytes,
     out: &mut [u8],
 ) -> Output
-    requires { ⌜ writeRefusal (given values (now «sender_id») (now «encryption_key») (now signature) (now «sender_cert») (now «provider_info») (now label) (now extension) (now body)) .number ≡ 0 ⌝ }
-    requires { ⌜ writeRefusal (given values (now «sender_id») (now «encryption_key») (now signature) (now «sender_cert») (now «provider_info») (now label) (now extension) (now body)) .place ≡ start ⌝ }
-    ensures { λ r. ⌜ r ≡ writeAnswer (lent values «sender_id» «encryption_key» signature «sender_cert» «provider_info» label extension body) (now (out .entry)) ⌝ }
-    ensures { λ _. ⌜ now (out .exit) ≡ writeBytes (lent values «sender_id» «encryption_key» signature «sender_cert» «provider_info» label extension body) (now (out .entry)) ⌝ }
+    requires { ⌜ writeRefusal (held values «sender_id» «encryption_key» signature
+        «sender_cert» «provider_info» label extension body) ≡ refusal 0 (start .0) ⌝ }
+    ensures { λ r. ⌜ r ≡ writeAnswer (lent values «sender_id» «encryption_key» signature
+        «sender_cert» «provider_info» label extension body) (now (out .entry)) ⌝ }
+    ensures { λ _. ⌜ now (out .exit) ≡ writeBytes (lent values «sender_id» «encryption_key» signature
+        «sender_cert» «provider_info» label extension body) (now (out .entry)) ⌝ }
 {
     let length = section_end(properties_given(values, label, extension, body), start);
     if out.len() < length.0 {
@@ -190,8 +194,10 @@ pub fn write_section(
     body: &[u8],
     out: &mut [u8],
 ) -> Output
-    ensures { λ r. ⌜ r ≡ writeAnswer (lent values «sender_id» «encryption_key» signature «sender_cert» «provider_info» label extension body) (now (out .entry)) ⌝ }
-    ensures { λ _. ⌜ now (out .exit) ≡ writeBytes (lent values «sender_id» «encryption_key» signature «sender_cert» «provider_info» label extension body) (now (out .entry)) ⌝ }
+    ensures { λ r. ⌜ r ≡ writeAnswer (lent values «sender_id» «encryption_key» signature
+        «sender_cert» «provider_info» label extension body) (now (out .entry)) ⌝ }
+    ensures { λ _. ⌜ now (out .exit) ≡ writeBytes (lent values «sender_id» «encryption_key» signature
+        «sender_cert» «provider_info» label extension body) (now (out .entry)) ⌝ }
 {
     let judged = judge(
         values,

@@ -5,7 +5,7 @@ use mathlib.Core.Bool.{Bool, true, false, _&&_, _||_, cond, and-eq-true-iff}
 use mathlib.Core.List.{List, []}
 use native.Mathlib.Nat.{zero-add}
 use native.Mathlib.Omega.{arith}
-use borrow.Author.Tests.{ne-eqb, eqb-true, eqb-false, leb-true}
+use borrow.Author.Tests.{eq-eqb, ne-eqb, eqb-true, eqb-false, leb-true}
 use lib.ListN.{length, getD, drop, length-drop}
 use lib.Dec.{eqb, leb, ltb}
 use Rattle.octets.specs.Number.{le}
@@ -46,19 +46,19 @@ start-passed false s e = record { read = refl; small = omega arith }
 
 -- all of it, once every step has passed
 pub record Passed (first : Bool) (s : List ℕ) : Type 0 where
-  pub security : securityNumber first s ≡ 0
+  pub place : judge first s .place .0 ≡ startAt first s
   pub start : Start first s
   pub fixed : startAt first s + 56 ≤ length s
   pub fields : propertiesRead s (startAt first s) ≡ fieldsAt first s
 
 pub accepted : (first : Bool) (s : List ℕ) → judge first s .number ≡ 0 → Passed first s
-unfolding fieldsAt summaryAt summaryOf startAt
+unfolding judge fieldsAt summaryAt summaryOf startAt
 accepted first s e =
     let a = judge-passed first s .0 e in
     let p = headerAt first s .parts .length .0 in
     let none = security-number first s .1 (a .security) in
     record {
-      security = none;
+      place = rw (eq-eqb (securityNumber first s) 0 none);
       start = start-passed first s none;
       fixed = a .properties .fixed;
       fields = properties-read s p (a .properties .fixed);

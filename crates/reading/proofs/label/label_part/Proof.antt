@@ -41,19 +41,17 @@ none c = sym (ap (λ (x : Refusal). x .number) (the tie.After-judge (search) .ju
 read : (c : tie.Else1) → Passed (first c) (input c)
 read c = accepted (first c) (input c) (none c)
 
-start-at-requires : tie.Need-start-at-requires
+place : (c : tie.Else1) → the tie.After-judge (search) .judge .result .place .0 ≡ startAt (first c) (input c)
 unfolding first input
-start-at-requires c κs = read (search) .security
+place c = ap (λ (x : Refusal). x .place .0) (the tie.After-judge (search) .judge .ensures) ∙ read c .place
 
 fields-at-requires : tie.Need-fields-at-requires
-unfolding first input
-fields-at-requires c κs = omega (arith, c .start-at .ensures, read (search) .fixed)
+unfolding input
+fields-at-requires c κs = omega (arith, place (search), read (search) .fixed)
 
 fields : (c : tie.After-fields-at) → c .fields-at .result ≡ fieldsAt (first (c .before .before)) (input (c .before .before))
-unfolding first input fieldsAt
-fields c =
-    c .fields-at .ensures .0
-    ∙ ap (λ (p : ℕ). propertiesFields (drop p (input (c .before .before)))) (c .before .start-at .ensures)
+unfolding input fieldsAt
+fields c = c .fields-at .ensures .0 ∙ ap (λ (p : ℕ). propertiesFields (drop p (input (c .before .before)))) (place (c .before .before))
 
 returns-2 : tie.Need-returns-2
 unfolding first input labelPart summaryAt summaryOf
@@ -66,7 +64,7 @@ unfolding first input labelPart summaryAt summaryOf propertiesParts
 returns-3 c =
     let units = subst (λ (f : PropertiesFields). ¬ (f .«label_length» .0 ≡ 0)) (fields (search)) (the tie.Else2 (search) .if2 .left) in
     let label =
-    ap₂ (λ (p n : ℕ). part (p + 56) n) (the tie.After-start-at (search) .start-at .ensures)
+    ap₂ (λ (p n : ℕ). part (p + 56) n) (place (search))
     (the tie.After-bytes (search) .bytes .ensures ∙ ap (λ (f : PropertiesFields). 2 * f .«label_length» .0) (fields (search))) in
     rw (summarize-passed _ _ (none (search)), ne-eqb _ 0 units) (c .part3 .ensures ∙ label)
 
@@ -78,11 +76,10 @@ label-part-spec =
     (λ c κs. search needs)
     (λ c κs. search needs)
     returns
-    start-at-requires
     fields-at-requires
     (λ c κs. search needs)
     returns-2
-    (λ c. omega (arith, the tie.After-start-at (search) .start-at .ensures, read (search) .start .small))
+    (λ c. omega (arith, place (search), read (search) .start .small))
     (λ c κs. search needs)
     (λ c κs. search needs)
     returns-3)

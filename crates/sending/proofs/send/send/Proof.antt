@@ -8,12 +8,13 @@ use borrow.Author.Needs.{needs}
 use lib.ListN.{getD}
 use lib.Seq.{length-take-le}
 use Rattle.octets.proofs.Laws.Steps.{the}
+use Rattle.rules.specs.Output.{writerOutput}
 use Rattle.requests.specs.Request.{SendRequest}
 use Rattle.requests.specs.Section.{labelWith}
 use Rattle.requests.proofs.Laws.Provider.{info-small}
 use Rattle.writing.specs.Given.{Given}
 use Rattle.writing.specs.Writing.{writeAnswer, writeBytes}
-use Rattle.sending.specs.Send.{answerAfter, bytesAfter, sendAnswer, sendBytes}
+use Rattle.sending.specs.Send.{answerAfter, sendAnswer, sendBytes}
 use Rattle.sending.proofs.Laws.Send.{Gets, Sent, gets, given-made, held, legal-sent}
 use Rattle.sending.proofs.send.send.Statement.{statement}
 use Rattle.sending.proofs.send.send.Tie as tie
@@ -73,7 +74,7 @@ returns-2 c =
     )
 
 pub send-spec : {M : Type 1} → statement M
-unfolding answerAfter bytesAfter sendAnswer sendBytes
+unfolding answerAfter sendAnswer sendBytes writerOutput
 send-spec =
     tie.close
     (tie.spec

@@ -69,7 +69,7 @@ returns c =
     let w2 = written-rest 32 24 (propertiesTail (fixed f [] 0)) (p2 .write-properties-tail .last .1 .0) w1 (sym (length-propertiesHead f id (a .application-tag) twenty)) (length-propertiesTail f) (before-32 n _ fits) (p2 .write-properties-tail .ensures) in
     let w3 = written-rest 56 (length label + length extension + length body) (label ++ (extension ++ body)) (p3 .write-properties-parts .last .1 .1 .1 .0) w2 refl parts (before-56 n _ fits) (p3 .write-properties-parts .ensures) in
     let w4 = written-zeros (56 + length label + length extension + length body) (pad .result .0) (p4 .zero .last .0) w3 (ends label extension body) (padded-room p0) (p4 .zero .ensures) in
-    (w4 .bytes ∙ ap (λ (bs : List ℕ). over bs (now (a .out))) (properties-bytes f id (a .application-tag) (pad .result .0) label extension body twenty (pad .ensures)), twenty)
+    w4 .bytes ∙ ap (λ (bs : List ℕ). over bs (now (a .out))) (properties-bytes f id (a .application-tag) (pad .result .0) label extension body twenty (pad .ensures))
 
 pub write-properties-spec : {M : Type 1} → statement M
 write-properties-spec =

@@ -17,7 +17,7 @@ use Rattle.rules.specs.Security.{securityRow}
 use Rattle.rules.specs.declared.properties.PropertiesFields.{PropertiesFields}
 use Rattle.rules.specs.declared.security.SecurityFields.{SecurityFields}
 use Rattle.writing.specs.Fixed.{PropertiesSized, SecuritySized}
-use Rattle.writing.specs.Given.{Given, fixed, given, propertiesGiven, securityGiven}
+use Rattle.writing.specs.Given.{Given, fixed, held, propertiesGiven, securityGiven}
 use Rattle.writing.specs.Writing.{paddedPart, propertiesBytes, propertiesFixed, sectionBytes, securityBytes, securityFixed, securityPartsBytes}
 use borrow.Author.Needs.{needs}
 use Rattle.writing.proofs.section.write_headers.Statement.{statement}
@@ -25,7 +25,9 @@ use Rattle.writing.proofs.section.write_headers.Tie as tie
 
 -- the section that is written
 abbrev section : tie.Start → Given
-section c = let a = c .args in given (a .values) (now (a .sender-id)) (now (a .encryption-key)) (now (a .signature)) (now (a .sender-cert)) (now (a .provider-info)) (now (a .label)) (now (a .extension)) (now (a .body))
+section c =
+    let a = c .args in
+    held (a .values) (a .sender-id) (a .encryption-key) (a .signature) (a .sender-cert) (a .provider-info) (a .label) (a .extension) (a .body)
 
 -- what stands first, by a test that was made
 headed : {first : Bool} {now : List ℕ} (b : Bool) (bs out : List ℕ) → first ≡ b → now ≡ over (cond b bs []) out → now ≡ over (cond first bs []) out
@@ -96,12 +98,10 @@ returns c =
     let joined-at = the tie.Joined1 (search) in
     let start = begun joined-at in
     let g = section start in
-    let rest = propertiesBytes g in (
-      written-rest (start .args .start .0) (length rest) rest (written .last .1 .1 .1 .1 .1 .1 .0) (joined joined-at) refl refl
-          (omega (arith, start .pre .room)) (properties-written g _ _ _ (made .properties-given .ensures) (written .ensures .0))
-          .bytes,
-      written .ensures .1,
-    )
+    let rest = propertiesBytes g in
+    written-rest (start .args .start .0) (length rest) rest (written .last .1 .1 .1 .1 .1 .1 .0) (joined joined-at) refl refl
+    (omega (arith, start .pre .room)) (properties-written g _ _ _ (made .properties-given .ensures) (written .ensures))
+    .bytes
 
 pub write-headers-spec : {M : Type 1} → statement M
 write-headers-spec =

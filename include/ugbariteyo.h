@@ -8,8 +8,9 @@
  *
  * Every call answers, for every input, and ends. Nothing has to be checked beforehand but the pointers: each one is
  * valid for the length beside it, for the length of the call, and an output overlaps none of the inputs. With a length
- * of 0 any pointer will do, NULL included. Nothing is allocated, kept or shared: the caller owns every byte, any number
- * of threads may call, and a part in an answer is a place in the caller's own input.
+ * of 0 any pointer will do, NULL included; one to a struct points to a struct. Nothing is allocated, kept or shared:
+ * the caller owns every byte, any number of threads may call, and a part in an answer is a place in the caller's own
+ * input.
  *
  * An answer holds a refusal. Its number is 0 (UGB_ACCEPTED) where nothing is refused, and only there; else every other
  * value of the answer is 0 or false, and no byte of the output was written. Bytes of an output behind what was written
@@ -216,7 +217,7 @@ typedef struct ugb_label {
 /* The full reading of the section at the first of s_length bytes. Bytes behind the section are not read. */
 ugb_reading ugb_read(const uint8_t *s, size_t s_length, bool security_first);
 
-/* The summary alone. */
+/* The summary alone. Refused exactly as ugb_read is. */
 static inline ugb_summarized ugb_summarize(const uint8_t *s, size_t s_length, bool security_first)
 {
     ugb_reading reading = ugb_read(s, s_length, security_first);
@@ -470,12 +471,12 @@ enum ugb_queue_type {
 
 /* The suffix type, the low nibble of suffix_and_flags. */
 enum ugb_queue_suffix {
-    UGB_SUFFIX_NONE = 0x00,
-    UGB_SUFFIX_JOURNAL = 0x01,
-    UGB_SUFFIX_DEADLETTER = 0x02,
-    UGB_SUFFIX_DEADXACT = 0x03,
-    UGB_SUFFIX_XACTONLY = 0x04,
-    UGB_SUFFIX_SUBQUEUE = 0x05
+    UGB_SUFFIX_NONE = 0x00,       /* with flags 0x00, any type but 4 */
+    UGB_SUFFIX_JOURNAL = 0x01,    /* with flags 0x80, any type but 5, 6, 7 */
+    UGB_SUFFIX_DEADLETTER = 0x02, /* with flags 0x80, any type but 1, 2, 5, 6, 7 */
+    UGB_SUFFIX_DEADXACT = 0x03,   /* with flags 0x80, types 3 and 4 */
+    UGB_SUFFIX_XACTONLY = 0x04,   /* with either flags, type 5 */
+    UGB_SUFFIX_SUBQUEUE = 0x05    /* with flags 0x00, type 8 */
 };
 
 /* The flags, the high nibble of suffix_and_flags, in its place. */

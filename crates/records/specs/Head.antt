@@ -1,10 +1,10 @@
 -- 01, the listing program's file: "per record the mark 0x57 0x52, one byte 1 or 0 for security first, one zero byte, a 4-byte length up to 32,768, the section".
 use Prim.Native.Nat.{ℕ, _-_}
 use mathlib.Core.Bool.{not, cond}
-use mathlib.Core.List.{List}
+use mathlib.Core.List.{List, _∷_}
 use lib.ListN.{length, getD, take, drop}
 use lib.Dec.{eqb, ltb}
-use Rattle.octets.specs.Number.{le}
+use Rattle.octets.specs.Number.{le, toLe}
 use Rattle.rules.specs.Refusal.{bytes}
 use Rattle.records.specs.declared.head.Head.{Head}
 use Rattle.records.specs.declared.head.NextHead.{NextHead}
@@ -30,3 +30,7 @@ nextHead s =
 -- the section behind a head
 unfoldable pub sectionBehind : Head → List ℕ → List ℕ
 sectionBehind h s = take (h .length .0) (drop 8 s)
+
+-- a head as its bytes
+unfoldable pub headBytes : Head → List ℕ
+headBytes h = 0x57 ∷ 0x52 ∷ cond (h .«security_first») 1 0 ∷ 0 ∷ toLe 4 (h .length .0)

@@ -1,8 +1,10 @@
 // The head of a record of the listing program's file: 8 bytes, and the section behind them.
 use octets::count::Bytes;
 use octets::number::u32_at;
+use octets::number::u32_bytes;
 ghost use mathlib.Core.Path.{_≡_};
-ghost use Rattle.records.specs.Head.{nextHead};
+ghost use mathlib.Core.Bool.{cond};
+ghost use Rattle.records.specs.Head.{headBytes, nextHead};
 
 pub const HEAD: usize = 8;
 
@@ -55,4 +57,31 @@ pub fn next_head(s: &[u8]) -> NextHead
         security_first: s[2] == 1,
         length: Bytes(length),
     })
+}
+
+fn security_byte(security_first: bool) -> u8
+    ensures { λ r. ⌜ r ≡ cond «security_first» 1 0 ⌝ }
+{
+    if security_first {
+        return 1;
+    }
+    0
+}
+
+// A head as its bytes. Of a length that does not fit its four bytes the rest is cut off.
+pub fn head_bytes(head: Head) -> [u8; 8]
+    ensures { λ r. ⌜ r ≡ headBytes head ⌝ }
+{
+    let first = security_byte(head.security_first);
+    let length = u32_bytes((head.length.0 % 4294967296) as u32);
+    [
+        0x57,
+        0x52,
+        first,
+        0,
+        length[0],
+        length[1],
+        length[2],
+        length[3],
+    ]
 }

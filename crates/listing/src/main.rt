@@ -2,48 +2,23 @@
 // Where a read or a write fails, standard error says so and no `end` or `stop` line is printed; the lines of the records
 // before a failed read are.
 use octets::count::Bytes;
-use octets::over::move_to_front;
 use records::append::append_line;
 use records::enough::is_enough;
 use records::line::Row;
 use records::record::Next;
 use records::record::next_record;
 use rules::section::Output;
-use streams::input::Ended;
-use streams::input::fill;
 use streams::output::put;
 use streams::output::tell;
+use streams::window::Window;
+use streams::window::read_on;
 ghost use Prim.Native.Nat.{_≤_};
 ghost use lib.ListN.{length};
-
-// What the input buffer holds: the bytes from `start` to `end`; and why no more.
-struct Window {
-    start: Bytes,
-    end: Bytes,
-    is_over: bool,
-    has_failed: bool,
-}
 
 // What the output buffer holds: lines in the first `used` bytes; and whether handing some on has failed.
 struct Lines {
     used: Bytes,
     has_failed: bool,
-}
-
-fn is_over(ended: Ended) -> bool {
-    match ended {
-        Ended::Over => true,
-        Ended::Full => false,
-        Ended::Failed => false,
-    }
-}
-
-fn has_failed(ended: Ended) -> bool {
-    match ended {
-        Ended::Failed => true,
-        Ended::Full => false,
-        Ended::Over => false,
-    }
 }
 
 // Reads on where the bytes held may not decide the next record.
@@ -53,19 +28,10 @@ fn refill(input: &mut [u8], window: Window) -> Window
     ensures { λ r. ⌜ r .start .0 ≤ r .end .0 ⌝ }
     ensures { λ r. ⌜ r .end .0 ≤ length (now (input .entry)) ⌝ }
 {
-    let held = window.end.0 - window.start.0;
-    if is_enough(Bytes(held), window.is_over) {
+    if is_enough(window.held(), window.is_over) {
         return window;
     }
-    move_to_front(input, window.start, window.end);
-    let filled = fill(&mut input[held..]);
-    let ended = filled.ended;
-    Window {
-        start: Bytes(0),
-        end: Bytes(held + filled.count.0),
-        is_over: is_over(ended),
-        has_failed: has_failed(ended),
-    }
+    read_on(input, window)
 }
 
 // Hands the lines on, and answers whether it could.
@@ -76,55 +42,58 @@ fn flush(output: &[u8], used: Bytes) -> bool
     put(&output[..end])
 }
 
-// Adds a line; where it does not fit, those before it are handed on first. (No line is longer than the buffer.)
-fn add_line(row: Row, output: &mut [u8], used: Bytes) -> Lines
+// Hands the lines on, and adds a line as the first. (No line is longer than the buffer.)
+fn add_first_line(row: Row, output: &mut [u8], used: Bytes) -> Lines
     requires { ⌜ used .0 ≤ length (now output) ⌝ }
     ensures { λ r. ⌜ r .used .0 ≤ length (now (output .entry)) ⌝ }
 {
-    if let Output::Written(more) = append_line(row, output, used) {
-        return Lines {
-            used: more,
-            has_failed: false,
-        };
-    }
     if !flush(output, used) {
         return Lines {
             used,
             has_failed: true,
         };
     }
-    if let Output::Written(first) = append_line(row, output, Bytes(0)) {
-        return Lines {
+    match append_line(row, output, Bytes(0)) {
+        Output::Written(first) => Lines {
             used: first,
             has_failed: false,
-        };
-    }
-    Lines {
-        used: Bytes(0),
-        has_failed: true,
+        },
+        Output::Refused(_) => Lines {
+            used: Bytes(0),
+            has_failed: true,
+        },
     }
 }
 
-// Adds the last line, and hands all lines on.
+// Adds a line; where it does not fit, those before it are handed on first.
+fn add_line(row: Row, output: &mut [u8], used: Bytes) -> Lines
+    requires { ⌜ used .0 ≤ length (now output) ⌝ }
+    ensures { λ r. ⌜ r .used .0 ≤ length (now (output .entry)) ⌝ }
+{
+    match append_line(row, output, used) {
+        Output::Written(more) => Lines {
+            used: more,
+            has_failed: false,
+        },
+        Output::Refused(_) => add_first_line(row, output, used),
+    }
+}
+
+// Hands the lines on, and then the last one, which so is printed only where those before it were.
 fn finish(row: Row, output: &mut [u8], used: Bytes)
     requires { ⌜ used .0 ≤ length (now output) ⌝ }
 {
-    let lines = add_line(row, output, used);
-    if !lines.has_failed {
-        flush(output, lines.used);
+    let last = add_first_line(row, output, used);
+    if !last.has_failed {
+        flush(output, last.used);
     }
 }
 
 // A proved loop has to end, and nothing says that the input does: this one ends at the latest where the records' number
 // would no longer fit its 64 bits.
 fn list(input: &mut [u8], output: &mut [u8]) {
-    let mut window = Window {
-        start: Bytes(0),
-        end: Bytes(0),
-        is_over: false,
-        has_failed: false,
-    };
-    let mut lines = add_line(Row::Header, output, Bytes(0));
+    let mut window = Window::empty();
+    let mut lines = add_first_line(Row::Header, output, Bytes(0));
     let mut number = 0;
     while number < u64::MAX {
         window = refill(input, window);

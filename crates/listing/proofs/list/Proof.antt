@@ -25,16 +25,19 @@ abbrev μ-loop : tie.MeasureT-loop
 part-fits : (n : ℕ) (l : List ℕ) (r : Record) → nextRecord (take n l) ≡ Found r → r .size .0 ≤ n
 part-fits n l r e = omega (arith, found-fits (take n l) r e, length-take n l)
 
+-- what reading on left in the buffer
+abbrev window : tie.After-record Inv-loop μ-loop → tie.After-refill Inv-loop μ-loop
+window c = c .before .before .before .before .before .before .before .before
+
 fits : (c : tie.After-record Inv-loop μ-loop)
-    → c .«record» .given .0 .0 .size .0
-    ≤ c .before .before .before .before .before .before .before .before .refill .result .end .0 - c .before .before .before .before .before .before .before .before .refill .result .start .0
+    → c .«record» .given .0 .0 .size .0 ≤ window c .refill .result .end .0 - window c .refill .result .start .0
 fits c =
-    let w = c .before .before .before .before .before .before .before .before .refill in
+    let w = window c .refill in
     part-fits (w .result .end .0 - w .result .start .0) (drop (w .result .start .0) (w .last .0)) _
     (sym (c .before .before .next-record .ensures) ∙ c .«record» .given .1)
 
-add-t27 : tie.Need-add-t27 Inv-loop μ-loop
-add-t27 c = omega (arith, fits (c .before .before))
+add-next : tie.Need-add-t26 Inv-loop μ-loop
+add-next c = omega (arith, fits (c .before .before))
 
 loop-again : tie.Need-loop-again Inv-loop μ-loop
 loop-again c = (
@@ -52,6 +55,7 @@ list-spec =
     Inv-loop
     μ-loop
     (λ c κs. search needs)
+    (λ c κs. search needs)
     (λ c. search needs)
     (λ c κs. search needs)
     (λ c κs. search needs)
@@ -63,7 +67,7 @@ list-spec =
     (λ c. search needs)
     (λ c κs. search needs)
     (λ c. search needs)
-    add-t27
+    add-next
     (λ c κs. search needs)
     (λ c. search needs)
     (λ c κs. search needs)

@@ -13,7 +13,8 @@ use Rattle.rules.specs.Summary.{noSecurity, summaryOf}
 use Rattle.records.specs.Decimal.{decimal, spelled}
 use Rattle.records.specs.Line.{endLine, headerLine, line, lineBytes, sizes, stopLine}
 use Rattle.records.specs.Listing.{linesFrom, linesOf, listing}
-use Rattle.records.specs.Record.{answerOf, nextRecord, sectionSize}
+use Rattle.records.specs.Head.{nextHead, sectionBehind, sectionSize}
+use Rattle.records.specs.Record.{answerOf, nextRecord, recordBehind}
 use Rattle.examples.specs.Examples.{Example}
 use Rattle.examples.specs.Inputs.{properties, recordOf}
 use Rattle.examples.specs.Listings.{firstPrinted, firstRecord, headerPrinted, listings, restPrinted, stopPrinted}
@@ -22,6 +23,6 @@ pub listings-hold : map (λ (e : Example). e .told) listings ≡ map (λ (e : Ex
 unfolding le toLe padded padding within isText lastOnly units classes listed bodyAt extensionAt labelContents
     labelText propertiesFields propertiesLength propertiesParts propertiesSteps readProperties fieldsAt headerAt judge
     propertiesNumber securityHeader securityNumber startAt summarize summaryAt firstOf noSecurity summaryOf decimal
-    spelled endLine headerLine line lineBytes sizes stopLine linesFrom linesOf listing answerOf nextRecord sectionSize
-    properties recordOf firstPrinted firstRecord headerPrinted listings restPrinted stopPrinted
+    spelled endLine headerLine line lineBytes sizes stopLine linesFrom linesOf listing answerOf nextRecord recordBehind
+    nextHead sectionBehind sectionSize properties recordOf firstPrinted firstRecord headerPrinted listings restPrinted stopPrinted
 listings-hold = refl

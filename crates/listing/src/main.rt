@@ -1,179 +1,125 @@
 // Reads a file of records on standard input and prints a line for each, as 01 says. Files of any length, in bounded memory.
-use libc::STDIN_FILENO;
-use libc::STDOUT_FILENO;
-use records::line::LINE_ROOM;
-use records::line::write_end_line;
-use records::line::write_header_line;
-use records::line::write_line;
-use records::line::write_stop_line;
-use records::record::HEAD;
-use records::record::LONGEST;
+// Where a read or a write fails, standard error says so and no `end` or `stop` line is printed; the lines of the records
+// before a failed read are.
+use octets::count::Bytes;
+use records::append::append_line;
+use records::enough::is_enough;
+use records::line::Row;
 use records::record::Next;
 use records::record::next_record;
 use rules::section::Output;
-ghost use mathlib.Core.Path.{_≡_};
-ghost use Prim.Native.Nat.{_+_, _≤_};
+use streams::output::put;
+use streams::output::tell;
+use streams::window::Window;
+use streams::window::read_on;
+ghost use Prim.Native.Nat.{_≤_};
 ghost use lib.ListN.{length};
 
-// What the two buffers hold: of the input the bytes from `start` to `end`, of the output the first `used`.
-struct Held {
-    start: usize,
-    end: usize,
-    used: usize,
-    is_over: bool,
-    is_done: bool,
+// What the output buffer holds: lines in the first `used` bytes; and whether handing some on has failed.
+struct Lines {
+    used: Bytes,
+    has_failed: bool,
 }
 
-fn move_to_front(input: &mut [u8], start: usize, end: usize)
-    requires { ⌜ start ≤ end ⌝ }
-    requires { ⌜ end ≤ length (now input) ⌝ }
+// Reads on where the bytes held may not decide the next record.
+fn refill(input: &mut [u8], window: Window) -> Window
+    requires { ⌜ window .start .0 ≤ window .end .0 ⌝ }
+    requires { ⌜ window .end .0 ≤ length (now input) ⌝ }
+    ensures { λ r. ⌜ r .start .0 ≤ r .end .0 ⌝ }
+    ensures { λ r. ⌜ r .end .0 ≤ length (now (input .entry)) ⌝ }
 {
-    let mut i = start;
-    while i < end {
-        input[i - start] = input[i];
-        i += 1;
+    if is_enough(window.held(), window.is_over) {
+        return window;
     }
+    read_on(input, window)
 }
 
-// Reads on where the buffer may hold less than a whole record and the input goes on.
-fn fill(input: &mut [u8], held: Held) -> Held
-    requires { ⌜ held .start ≤ held .end ⌝ }
-    requires { ⌜ held .end ≤ length (now input) ⌝ }
-    ensures { λ r. ⌜ r .start ≤ r .end ⌝ }
-    ensures { λ r. ⌜ r .end ≤ length (now (input .entry)) ⌝ }
-    ensures { λ r. ⌜ r .used ≡ held .used ⌝ }
+// Hands the lines on, and answers whether it could.
+fn flush(output: &[u8], used: Bytes) -> bool
+    requires { ⌜ used .0 ≤ length (now output) ⌝ }
 {
-    let start = held.start;
-    let end = held.end;
-    if held.is_over {
-        return held;
-    }
-    if HEAD + LONGEST <= end - start {
-        return held;
-    }
-    let rest = end - start;
-    move_to_front(input, start, end);
-    let got = io::read_full(STDIN_FILENO, &mut input[rest..]);
-    Held {
-        start: 0,
-        end: rest + got,
-        used: held.used,
-        is_over: rest + got < input.len(),
-        is_done: false,
-    }
+    let end = used.0;
+    put(&output[..end])
 }
 
-// Hands the output on where a line might not fit behind what it holds, and answers where the next line begins.
-fn line_start(output: &[u8], used: usize) -> usize
-    requires { ⌜ used ≤ length (now output) ⌝ }
-    ensures { λ r. ⌜ r ≤ length (now (output .entry)) ⌝ }
+// Hands the lines on, and adds a line as the first. (No line is longer than the buffer.)
+fn add_first_line(row: Row, output: &mut [u8], used: Bytes) -> Lines
+    requires { ⌜ used .0 ≤ length (now output) ⌝ }
+    ensures { λ r. ⌜ r .used .0 ≤ length (now (output .entry)) ⌝ }
 {
-    if LINE_ROOM <= output.len() - used {
-        return used;
+    if !flush(output, used) {
+        return Lines {
+            used,
+            has_failed: true,
+        };
     }
-    io::write_all(STDOUT_FILENO, &output[..used]);
-    0
-}
-
-// Where a line that was written from `at` on ends.
-fn line_end(answer: Output, output: &[u8], at: usize) -> usize
-    requires { ⌜ at ≤ length (now output) ⌝ }
-    ensures { λ r. ⌜ r ≤ length (now (output .entry)) ⌝ }
-{
-    match answer {
-        Output::Refused(_) => at,
-        Output::Written(n) => {
-            let size = n.0;
-            if output.len() - at < size {
-                return at;
-            }
-            at + size
-        }
+    match append_line(row, output, Bytes(0)) {
+        Output::Written(first) => Lines {
+            used: first,
+            has_failed: false,
+        },
+        Output::Refused(_) => Lines {
+            used: Bytes(0),
+            has_failed: true,
+        },
     }
 }
 
-fn write_last_line(number: u64, is_whole: bool, out: &mut [u8]) -> Output {
-    if is_whole {
-        return write_end_line(number, out);
+// Adds a line; where it does not fit, those before it are handed on first.
+fn add_line(row: Row, output: &mut [u8], used: Bytes) -> Lines
+    requires { ⌜ used .0 ≤ length (now output) ⌝ }
+    ensures { λ r. ⌜ r .used .0 ≤ length (now (output .entry)) ⌝ }
+{
+    match append_line(row, output, used) {
+        Output::Written(more) => Lines {
+            used: more,
+            has_failed: false,
+        },
+        Output::Refused(_) => add_first_line(row, output, used),
     }
-    write_stop_line(number, out)
 }
 
-// The last line, and with it all that the output holds.
-fn finish(number: u64, is_whole: bool, output: &mut [u8], used: usize)
-    requires { ⌜ used ≤ length (now output) ⌝ }
+// Hands the lines on, and then the last one, which so is printed only where those before it were.
+fn finish(row: Row, output: &mut [u8], used: Bytes)
+    requires { ⌜ used .0 ≤ length (now output) ⌝ }
 {
-    let at = line_start(output, used);
-    let answer = write_last_line(number, is_whole, &mut output[at..]);
-    let end = line_end(answer, output, at);
-    io::write_all(STDOUT_FILENO, &output[..end]);
-}
-
-// One record: its line, or the last line.
-fn turn(number: u64, input: &mut [u8], output: &mut [u8], before: Held) -> Held
-    requires { ⌜ before .start ≤ before .end ⌝ }
-    requires { ⌜ before .end ≤ length (now input) ⌝ }
-    requires { ⌜ before .used ≤ length (now output) ⌝ }
-    ensures { λ r. ⌜ r .start ≤ r .end ⌝ }
-    ensures { λ r. ⌜ r .end ≤ length (now (input .entry)) ⌝ }
-    ensures { λ r. ⌜ r .used ≤ length (now (output .entry)) ⌝ }
-{
-    let held = fill(input, before);
-    let start = held.start;
-    let end = held.end;
-    let used = held.used;
-    let is_over = held.is_over;
-    match next_record(&input[start..end]) {
-        Next::Found(r) => {
-            let answer = r.answer;
-            let at = line_start(output, used);
-            let written = write_line(number, answer, &mut output[at..]);
-            Held {
-                start: start + r.size.0,
-                end,
-                used: line_end(written, output, at),
-                is_over,
-                is_done: false,
-            }
-        }
-        Next::End => {
-            finish(number, true, output, used);
-            Held {
-                start,
-                end,
-                used,
-                is_over,
-                is_done: true,
-            }
-        }
-        Next::Stop => {
-            finish(number, false, output, used);
-            Held {
-                start,
-                end,
-                used,
-                is_over,
-                is_done: true,
-            }
-        }
+    let last = add_first_line(row, output, used);
+    if !last.has_failed {
+        flush(output, last.used);
     }
 }
 
 // A proved loop has to end, and nothing says that the input does: this one ends at the latest where the records' number
 // would no longer fit its 64 bits.
 fn list(input: &mut [u8], output: &mut [u8]) {
-    let used = line_end(write_header_line(output), output, 0);
-    let mut held = Held {
-        start: 0,
-        end: 0,
-        used,
-        is_over: false,
-        is_done: false,
-    };
+    let mut window = Window::empty();
+    let mut lines = add_first_line(Row::Header, output, Bytes(0));
     let mut number = 0;
     while number < u64::MAX {
-        held = turn(number, input, output, held);
-        if held.is_done {
+        window = refill(input, window);
+        if window.has_failed {
+            flush(output, lines.used);
+            return;
+        }
+        let start = window.start.0;
+        let end = window.end.0;
+        match next_record(&input[start..end]) {
+            Next::Found(record) => {
+                let next = Bytes(start + record.size.0);
+                let answer = record.answer;
+                window.start = next;
+                lines = add_line(Row::Record(number, answer), output, lines.used);
+            }
+            Next::End => {
+                finish(Row::End(number), output, lines.used);
+                return;
+            }
+            Next::Stop => {
+                finish(Row::Stop(number), output, lines.used);
+                return;
+            }
+        }
+        if lines.has_failed {
             return;
         }
         number += 1;
@@ -181,6 +127,10 @@ fn list(input: &mut [u8], output: &mut [u8]) {
 }
 
 fn main() {
+    if 1 < os::arg_count() {
+        tell(b"listing takes no words: it reads a day's file on standard input\n");
+        return;
+    }
     let mut input = io::large_buffer();
     let mut output = io::large_buffer();
     list(&mut input, &mut output);

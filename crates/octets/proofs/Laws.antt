@@ -1,3 +1,4 @@
+pub mod Move
 pub mod Number
 pub mod Over
 pub mod Padding

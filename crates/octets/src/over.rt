@@ -3,7 +3,7 @@ use crate::count::Bytes;
 ghost use mathlib.Core.Path.{_≡_};
 ghost use Prim.Native.Nat.{min};
 ghost use lib.ListN.{length, replicate};
-ghost use Rattle.octets.specs.Over.{copied};
+ghost use Rattle.octets.specs.Over.{copied, movedToFront};
 
 fn smaller(a: Bytes, b: Bytes) -> Bytes
     ensures { λ r. ⌜ r .0 ≡ min (a .0) (b .0) ⌝ }
@@ -77,6 +77,27 @@ pub fn copy_long(s: &[u8], out: &mut [u8])
         i += 1024;
     }
     copy(&s[i..n], &mut out[i..n]);
+}
+
+// The bytes from `start` to `end` over the buffer's first bytes, the first byte first, since the two may share bytes.
+// Where they do not all lie in the buffer it stays as it is.
+pub fn move_to_front(buffer: &mut [u8], start: Bytes, end: Bytes)
+    ensures { λ _. ⌜ now (buffer .exit) ≡ movedToFront (start .0) (end .0) (now (buffer .entry)) ⌝ }
+{
+    let from = start.0;
+    let to = end.0;
+    if buffer.len() < to {
+        return;
+    }
+    if to < from {
+        return;
+    }
+    let n = to - from;
+    let mut i = 0;
+    while i < n {
+        buffer[i] = buffer[from + i];
+        i += 1;
+    }
 }
 
 // Over the whole output.

@@ -1,13 +1,10 @@
 -- 01, the lines that the listing program prints, as ASCII codes: columns with a space between them, a newline at the end.
 use Prim.Native.Nat.{ℕ}
-use mathlib.Core.Bool.{cond}
 use mathlib.Core.List.{List, [], _∷_, _++_}
-use lib.ListN.{length}
-use lib.Dec.{ltb}
-use Rattle.octets.specs.Over.{over}
-use Rattle.rules.specs.Refusal.{bytes, refusal}
+use lib.ListN.{take}
+use Rattle.rules.specs.Output.{writerAnswer, writerOutput}
+use Rattle.rules.specs.Refusal.{refusal}
 use Rattle.rules.specs.declared.section.Output.{Output}
-use Rattle.rules.specs.declared.section.Output.the-variants.{Written, Refused as Output·Refused}
 use Rattle.records.specs.Decimal.{decimal}
 use Rattle.records.specs.declared.record.Line.{Line}
 use Rattle.records.specs.declared.line.Row.{Row}
@@ -73,9 +70,13 @@ rowBytes (Record number answer) = lineBytes number answer
 rowBytes (End count) = endLine count
 rowBytes (Stop number) = stopLine number
 
--- what a writer answers for a line, and what the lent output then holds: 13 where it is shorter, and not a byte written
-unfoldable pub writeAnswer : List ℕ → List ℕ → Output
-writeAnswer text out = cond (ltb (length out) (length text)) (Output·Refused (refusal 13 0)) (Written (bytes (length text)))
+-- what is used of an output, and the line behind it
+unfoldable pub withLine : Row → ℕ → List ℕ → List ℕ
+withLine row used out = take used out ++ rowBytes row
 
-unfoldable pub writeBytes : List ℕ → List ℕ → List ℕ
-writeBytes text out = cond (ltb (length out) (length text)) out (over text out)
+-- what is answered where it is to be written over that output, and what the output then holds: 13 where it is longer
+unfoldable pub appendAnswer : Row → ℕ → List ℕ → Output
+appendAnswer row used out = writerAnswer (refusal 0 0) (withLine row used out) out
+
+unfoldable pub appendBytes : Row → ℕ → List ℕ → List ℕ
+appendBytes row used out = writerOutput (appendAnswer row used out) (withLine row used out) out

@@ -1,11 +1,17 @@
 // A record of the listing program's file: a head of 8 bytes, and a section.
+use crate::head::HEAD;
+use crate::head::NextHead;
+use crate::head::next_head;
 use octets::count::Bytes;
 use octets::count::Units;
-use octets::number::u32_at;
-use reading::section::summarize;
+use reading::properties::properties_fields;
+use reading::section::judge;
+use reading::section::properties_start;
+use rules::properties::section_end;
+use rules::refusal;
 use rules::refusal::Refusal;
-use rules::section::Summarized;
 ghost use mathlib.Core.Path.{_≡_};
+ghost use Rattle.rules.specs.Reading.{summarize};
 ghost use Rattle.records.specs.Record.{answerOf, nextRecord};
 
 // The values of a listing line: 01's columns class, label, ext, body and total.
@@ -25,75 +31,54 @@ pub enum Answer {
 // `size` counts head and section together.
 pub struct Record {
     pub size: Bytes,
+    pub security_first: bool,
     pub answer: Answer,
 }
 
-// `End` where the file ends behind a whole record, `Stop` at a wrong or cut head or a cut section.
+// As `NextHead`, the record in the head's place.
 pub enum Next {
     End,
     Stop,
     Found(Record),
 }
 
-pub const HEAD: usize = 8;
-
-// The longest section that a record may hold.
-pub const LONGEST: usize = 32768;
-
-fn answer_of(summarized: Summarized) -> Answer
-    ensures { λ r. ⌜ r ≡ answerOf summarized ⌝ }
+// What the listing says of a section. (Only the fields that a line has are read: a summary is some 300 bytes.)
+fn answer_of(section: &[u8], security_first: bool) -> Answer
+    ensures { λ r. ⌜ r ≡ answerOf (summarize «security_first» (now (section .entry))) ⌝ }
 {
-    match summarized {
-        Summarized::Refused(r) => Answer::Refused(r),
-        Summarized::Accepted(m) => {
-            let label_length = m.properties.label_length;
-            let extension_size = m.properties.extension_size;
-            let message_size = m.properties.message_size;
-            let section_length = m.parts.section_length;
-            Answer::Accepted(Line {
-                message_class: m.properties.message_class,
-                label_length,
-                extension_size,
-                message_size,
-                section_length,
-            })
-        }
+    let refused = judge(section, security_first);
+    if refused.number != refusal::PASSED {
+        return Answer::Refused(refused);
     }
+    let at = properties_start(section, security_first);
+    let fields = properties_fields(section, at);
+    let label_length = fields.label_length;
+    let extension_size = fields.extension_size;
+    let message_size = fields.message_size;
+    Answer::Accepted(Line {
+        message_class: fields.message_class,
+        label_length,
+        extension_size,
+        message_size,
+        section_length: section_end(fields, at),
+    })
 }
 
 // The record at the first byte of `s`, the rest of the file.
 pub fn next_record(s: &[u8]) -> Next
     ensures { λ r. ⌜ r ≡ nextRecord (now (s .entry)) ⌝ }
 {
-    if s.len() == 0 {
-        return Next::End;
+    match next_head(s) {
+        NextHead::End => Next::End,
+        NextHead::Stop => Next::Stop,
+        NextHead::Found(head) => {
+            let end = HEAD + head.length.0;
+            let security_first = head.security_first;
+            Next::Found(Record {
+                size: Bytes(end),
+                security_first,
+                answer: answer_of(&s[HEAD..end], security_first),
+            })
+        }
     }
-    if s.len() < HEAD {
-        return Next::Stop;
-    }
-    if s[0] != 0x57 {
-        return Next::Stop;
-    }
-    if s[1] != 0x52 {
-        return Next::Stop;
-    }
-    if 1 < s[2] {
-        return Next::Stop;
-    }
-    if s[3] != 0 {
-        return Next::Stop;
-    }
-    let length = u32_at(s, Bytes(4)) as usize;
-    if LONGEST < length {
-        return Next::Stop;
-    }
-    if s.len() - HEAD < length {
-        return Next::Stop;
-    }
-    let section = &s[HEAD..HEAD + length];
-    let answer = answer_of(summarize(section, s[2] == 1));
-    Next::Found(Record {
-        size: Bytes(HEAD + length),
-        answer,
-    })
 }

@@ -2,4 +2,5 @@
 // error, with the system's reason, and to the caller.
 pub mod input;
 pub mod output;
+pub mod window;
 pub mod word;

@@ -1,20 +1,47 @@
 // A send request written as a section.
-use crate::output::UgbOutput;
-use crate::output::output_answer;
 use crate::request::UgbRequest;
 use crate::request::request_of;
-use rules::section::CorrelationId;
+use crate::zero::no_refusal;
+use octets::count::Bytes;
+use requests::section::security_first;
+use rules::refusal::Refusal;
+use rules::section::Output;
 use sending::send::send;
 ghost use mathlib.Core.Path.{_≡_};
 ghost use Rattle.requests.specs.Request.{sendRequest};
+ghost use Rattle.requests.specs.Section.{first};
 ghost use Rattle.sending.specs.Send.{sendAnswer, sendBytes};
-ghost use Rattle.ugbariteyo.specs.Output.{outputAnswer};
 ghost use Rattle.ugbariteyo.specs.Request.{requestOf};
+ghost use Rattle.ugbariteyo.specs.Send.{sentAnswer};
+
+// What reading needs beside the bytes: whether a SecurityHeader stands first in them.
+#[repr(C)]
+pub struct UgbSent {
+    pub refusal: Refusal,
+    pub length: Bytes,
+    pub security_first: bool,
+}
+
+fn sent_answer(output: Output, security_first: bool) -> UgbSent
+    ensures { λ r. ⌜ r ≡ sentAnswer «security_first» output ⌝ }
+{
+    match output {
+        Output::Refused(refusal) => UgbSent {
+            refusal,
+            length: Bytes(0),
+            security_first: false,
+        },
+        Output::Written(length) => UgbSent {
+            refusal: no_refusal(),
+            length,
+            security_first,
+        },
+    }
+}
 
 #[no_mangle]
-pub extern "C" fn ugb_send(
+pub extern "C" fn ugb_send_positional(
     request: UgbRequest,
-    correlation_id: &CorrelationId,
     title: &[u16],
     sender_id: &[u8],
     encryption_key: &[u8],
@@ -24,13 +51,16 @@ pub extern "C" fn ugb_send(
     extension: &[u8],
     body: &[u8],
     out: &mut [u8],
-) -> UgbOutput
-    ensures { λ r. ⌜ r ≡ outputAnswer (sendAnswer (sendRequest (requestOf request) title «sender_id» «encryption_key» signature «sender_cert» «provider_name» extension body) (now (out .entry))) ⌝ }
-    ensures { λ _. ⌜ now (out .exit) ≡ sendBytes (sendRequest (requestOf request) title «sender_id» «encryption_key» signature «sender_cert» «provider_name» extension body) (now («correlation_id» .entry)) (now (out .entry)) ⌝ }
+) -> UgbSent
+    ensures { λ r. ⌜ r ≡ sentAnswer (first (sendRequest (requestOf request) title «sender_id» «encryption_key» signature «sender_cert» «provider_name» extension body)) (sendAnswer (sendRequest (requestOf request) title «sender_id» «encryption_key» signature «sender_cert» «provider_name» extension body) (now (out .entry))) ⌝ }
+    ensures { λ _. ⌜ now (out .exit) ≡ sendBytes (sendRequest (requestOf request) title «sender_id» «encryption_key» signature «sender_cert» «provider_name» extension body) (request .«correlation_id») (now (out .entry)) ⌝ }
 {
-    output_answer(send(
-        request_of(request),
-        *correlation_id,
+    let given = request_of(request);
+    let correlation_id = request.correlation_id;
+    let first = security_first(given, sender_id, encryption_key, signature, sender_cert);
+    let output = send(
+        given,
+        correlation_id,
         title,
         sender_id,
         encryption_key,
@@ -40,5 +70,6 @@ pub extern "C" fn ugb_send(
         extension,
         body,
         out,
-    ))
+    );
+    sent_answer(output, first)
 }

@@ -1,57 +1,52 @@
 -- What the buffers hold lies in them; the loop ends at the latest where the record number is the greatest.
-use Prim.Native.Nat.{_-_, _≤_}
-use mathlib.Core.Path.{_≡_, refl}
+use Prim.Native.Nat.{ℕ, _-_, _≤_}
+use mathlib.Core.Path.{_≡_, sym, _∙_}
+use mathlib.Core.List.{List}
 use native.Mathlib.Omega.{arith}
 use borrow.Author.Needs.{needs}
-use lib.ListN.{length}
+use lib.ListN.{length, take, drop, length-take}
+use Rattle.octets.proofs.Laws.Steps.{the}
+use Rattle.records.specs.Record.{nextRecord}
+use Rattle.records.specs.declared.record.Next.the-variants.{Found}
+use Rattle.records.specs.declared.record.Record.{Record}
+use Rattle.records.proofs.Laws.Record.{found-fits}
 use Rattle.listing.proofs.list.Statement.{statement}
 use Rattle.listing.proofs.list.Tie as tie
 
 abbrev Inv-loop : tie.InvT-loop
-Inv-loop input₀ output₀ used held₀ number₀ input output held number = (held .start ≤ held .end) × (held .end ≤ length input) × (held .used ≤ length output)
+Inv-loop input₀ output₀ window₀ lines₀ number₀ input output window lines number =
+    (window .start .0 ≤ window .end .0) × (window .end .0 ≤ length input) × (lines .used .0 ≤ length output)
     × (length input ≡ length input₀) × (length output ≡ length output₀)
 
 abbrev μ-loop : tie.MeasureT-loop
-μ-loop input₀ output₀ used held₀ number₀ input output held number = 18446744073709551615 - number
+μ-loop input₀ output₀ window₀ lines₀ number₀ input output window lines number = 18446744073709551615 - number
 
-write-header-line-requires : tie.Need-write-header-line-requires Inv-loop μ-loop
-write-header-line-requires c κs = search needs
+-- a record that is found ends where the bytes held do, or before
+part-fits : (n : ℕ) (l : List ℕ) (r : Record) → nextRecord (take n l) ≡ Found r → r .size .0 ≤ n
+part-fits n l r e = omega (arith, found-fits (take n l) r e, length-take n l)
 
-line-end-requires : tie.Need-line-end-requires Inv-loop μ-loop
-line-end-requires c κs = search needs
+-- what reading on left in the buffer
+abbrev window : tie.After-record Inv-loop μ-loop → tie.After-refill Inv-loop μ-loop
+window c = c .before .before .before .before .before .before .before .before
 
-loop-holds : tie.Need-loop-holds Inv-loop μ-loop
-loop-holds c = search needs
+fits : (c : tie.After-record Inv-loop μ-loop)
+    → c .«record» .given .0 .0 .size .0 ≤ window c .refill .result .end .0 - window c .refill .result .start .0
+fits c =
+    let w = window c .refill in
+    part-fits (w .result .end .0 - w .result .start .0) (drop (w .result .start .0) (w .last .0)) _
+    (sym (c .before .before .next-record .ensures) ∙ c .«record» .given .1)
 
-turn-requires : tie.Need-turn-requires Inv-loop μ-loop
-turn-requires c κs = search needs
-
-same-length : tie.Need-same-length Inv-loop μ-loop
-same-length c = search needs
-
-same-length-2 : tie.Need-same-length-2 Inv-loop μ-loop
-same-length-2 c = search needs
-
-returns : tie.Need-returns Inv-loop μ-loop
-returns c = tt
-
-add-number : tie.Need-add-number Inv-loop μ-loop
-add-number c = omega arith
-
-loop-less : tie.Need-loop-less Inv-loop μ-loop
-loop-less c = omega arith
+add-next : tie.Need-add-t26 Inv-loop μ-loop
+add-next c = omega (arith, fits (c .before .before))
 
 loop-again : tie.Need-loop-again Inv-loop μ-loop
-loop-again c = search needs
-
-same-length-3 : tie.Need-same-length-3 Inv-loop μ-loop
-same-length-3 c = search needs
-
-same-length-4 : tie.Need-same-length-4 Inv-loop μ-loop
-same-length-4 c = search needs
-
-returns-2 : tie.Need-returns-2 Inv-loop μ-loop
-returns-2 c = tt
+loop-again c = (
+  omega (arith, fits (c .before .before .before .before .before .before .before)),
+  search needs,
+  search needs,
+  search needs,
+  search needs,
+)
 
 pub list-spec : {M : Type 1} → statement M
 list-spec =
@@ -59,16 +54,37 @@ list-spec =
     (tie.spec
     Inv-loop
     μ-loop
-    write-header-line-requires
-    line-end-requires
-    loop-holds
-    turn-requires
-    same-length
-    same-length-2
-    returns
-    add-number
-    loop-less
+    (λ c κs. search needs)
+    (λ c κs. search needs)
+    (λ c. search needs)
+    (λ c κs. search needs)
+    (λ c κs. search needs)
+    (λ c. search needs)
+    (λ c. search needs)
+    (λ c. tt)
+    (λ c. search needs)
+    (λ c. search needs)
+    (λ c. search needs)
+    (λ c κs. search needs)
+    (λ c. search needs)
+    add-next
+    (λ c κs. search needs)
+    (λ c. search needs)
+    (λ c κs. search needs)
+    (λ c. search needs)
+    (λ c. search needs)
+    (λ c. tt)
+    (λ c. search needs)
+    (λ c κs. search needs)
+    (λ c. search needs)
+    (λ c. search needs)
+    (λ c. tt)
+    (λ c. search needs)
+    (λ c. search needs)
+    (λ c. tt)
+    (λ c. search needs)
+    (λ c. search needs)
     loop-again
-    same-length-3
-    same-length-4
-    returns-2)
+    (λ c. search needs)
+    (λ c. search needs)
+    (λ c. tt))

@@ -4,9 +4,9 @@ use mathlib.Core.Path.{_≡_, refl, sym, ap, _∙_}
 use mathlib.Core.List.{List, [], _∷_, _++_}
 use mathlib.Core.Bool.{Bool, true, false, cond}
 use native.Mathlib.Omega.{arith}
-use borrow.Author.Tests.{le-ltb, lt-ltb}
+use borrow.Author.Tests.{le-ltb, lt-ltb, ltb-false}
 use lib.ListN.{length, getD, take, drop, length-append, length-drop}
-use lib.Dec.{leb·suc-zero}
+use lib.Dec.{leb·suc-zero, ltb}
 use lib.Seq.{length-take-le, getD-take, getD-drop, take-all, take-at, drop-drop, drop-append-seam}
 use Rattle.octets.specs.Part.{whole, within}
 
@@ -18,6 +18,15 @@ cond-same false = refl
 pub within-none : (s : List ℕ) (at : ℕ) → within s at 0 ≡ []
 unfolding within
 within-none s at = simp (leb·suc-zero, cond-same)
+
+-- nor are there any where they are not all there
+pub within-out : (s : List ℕ) (at n : ℕ) → length s < at + n → within s at n ≡ []
+unfolding within
+within-out s at n h = go (ltb (length s) at) refl
+  where
+    go : (b : Bool) → ltb (length s) at ≡ b → within s at n ≡ []
+    go true e = rw e
+    go false e = rw (e, lt-ltb (length s - at) n (omega (arith, ltb-false (length s) at e)))
 
 module _ (s : List ℕ) (at n : ℕ) (h : at + n ≤ length s) where
   -- where all the bytes are there, they are the part

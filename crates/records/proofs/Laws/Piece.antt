@@ -1,12 +1,11 @@
 -- The pieces of a line, each put where the one before it ends.
 use Prim.Native.Nat.{ℕ, _+_, _≤_}
-use mathlib.Core.Path.{_≡_, sym, _∙_}
+use mathlib.Core.Path.{_≡_, _∙_}
 use mathlib.Core.List.{List, _++_}
-use native.Mathlib.Nat.{zero-add}
 use native.Mathlib.Omega.{arith}
 use lib.ListN.{length, length-append}
-use Rattle.octets.specs.Over.{over, overAt}
-use Rattle.octets.proofs.Laws.Over.{over-append, over-start}
+use Rattle.octets.specs.Over.{overAt}
+use Rattle.octets.proofs.Laws.Over.{over-append}
 
 -- What has been put from an offset on, and where it ends.
 pub record Put (at : ℕ) (p out : List ℕ) (end : ℕ) (now : List ℕ) : Type 0 where
@@ -15,10 +14,6 @@ pub record Put (at : ℕ) (p out : List ℕ) (end : ℕ) (now : List ℕ) : Type
 
 pub put-first : (at : ℕ) (q : List ℕ) {out later : List ℕ} {r : ℕ} → r ≡ at + length q → later ≡ overAt at q out → Put at q out r later
 put-first at q e b = record { ends = e; bytes = b }
-
--- from the start on
-pub put-start : (q : List ℕ) {out later : List ℕ} {r : ℕ} → r ≡ length q → later ≡ over q out → Put 0 q out r later
-put-start q {out} e b = record { ends = e ∙ sym (zero-add (length q)); bytes = b ∙ sym (over-start q out) }
 
 pub put-next : {at : ℕ} {p out : List ℕ} {end : ℕ} {now : List ℕ} (q : List ℕ) {later : List ℕ} {r : ℕ} → Put at p out end now
     → at ≤ length out → r ≡ end + length q → later ≡ overAt end q now → Put at (p ++ q) out r later

@@ -1,18 +1,17 @@
 -- An accepted section's headers lie where the layout puts them.
 use Prim.Native.Nat.{ℕ, _+_, _≤_}
 use mathlib.Core.Path.{_≡_}
-use mathlib.Core.Bool.{Bool, true}
+use mathlib.Core.Bool.{true}
 use mathlib.Core.List.{List}
 use native.Mathlib.Omega.{arith}
 use lib.ListN.{length}
 use Rattle.octets.specs.Padding.{padded}
 use Rattle.rules.specs.Properties.{propertiesLength}
-use Rattle.rules.specs.Reading.{fieldsAt, headerAt, judge, securityHeader, startAt, summaryAt}
-use Rattle.rules.specs.Refusal.{limit}
+use Rattle.rules.specs.Reading.{headerAt, judge, securityHeader, startAt, summaryAt}
 use Rattle.rules.specs.Security.{providerAt, securityFields, securityLength, securityParts}
 use Rattle.rules.specs.Summary.{summaryOf}
 use Rattle.rules.specs.declared.properties.PropertiesFields.{PropertiesFields}
-use Rattle.rules.proofs.Laws.Accepted.{judge-passed, section-fits}
+use Rattle.rules.proofs.Laws.Accepted.{judge-passed}
 use Rattle.rules.proofs.Laws.Judged.{identity-le-provider}
 use Rattle.support.specs.Laid.{PropertiesLaid, SecurityLaid}
 
@@ -35,17 +34,3 @@ pub properties-laid : (f : PropertiesFields) (size : ℕ) (s out : List ℕ) →
     → size ≤ length s → size ≤ length out → PropertiesLaid f size s out
 unfolding propertiesLength padded
 properties-laid f size s out e hs ho = record { label = omega arith; end = e; input = hs; output = ho }
-
--- the section ends behind its MessagePropertiesHeader, within the limit and the input
-pub record Ends (first : Bool) (s : List ℕ) (size : ℕ) : Type 0 where
-  pub end : size ≡ startAt first s + propertiesLength (fieldsAt first s)
-  pub small : size ≤ limit
-  pub input : size ≤ length s
-
-pub section-ends : (first : Bool) (s : List ℕ) → judge first s .number ≡ 0
-    → Ends first s (summaryAt first s .parts .«section_length» .0)
-unfolding summaryAt summaryOf startAt
-section-ends first s e =
-    let a = judge-passed first s .0 e .properties in
-    let fits = section-fits a in
-    record { end = fits .size; small = omega (arith, fits .size, fits .small); input = a .reaches }

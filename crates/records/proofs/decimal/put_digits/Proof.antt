@@ -10,13 +10,13 @@ use Rattle.records.proofs.decimal.put_digits.Statement.{statement}
 use Rattle.records.proofs.decimal.put_digits.Tie as tie
 
 abbrev Inv-loop : tie.InvT-loop
-Inv-loop n count text₀ at left₀ rest₀ text left rest = Putting n at left rest text₀ text
+Inv-loop n text₀ first left₀ rest₀ text left rest = Putting n first left rest text₀ text
 
 abbrev μ-loop : tie.MeasureT-loop
-μ-loop n count text₀ at left₀ rest₀ text left rest = rest
+μ-loop n text₀ first left₀ rest₀ text left rest = rest
 
 loop-holds : tie.Need-loop-holds Inv-loop μ-loop
-loop-holds c = putting-first (c .args .n) (c .args .at) (c .args .count) (now (c .args .text)) (c .pre .0)
+loop-holds c = putting-first (c .args .n) (c .args .at .0) (c .args .count .0) (now (c .args .text)) (c .pre .0)
 
 sub-left : tie.Need-sub-left Inv-loop μ-loop
 sub-left c = omega (arith, c .before .loop .inv .count, decimal-some (c .before .loop .rest))
@@ -52,7 +52,7 @@ slice-write-text-2 c = omega (arith, c .before .loop .inv .size, decimal-some (c
 same-length : tie.Need-same-length Inv-loop μ-loop
 same-length c =
     let l = c .before .loop in
-    length-set (l .text) (c .before .before .args .at) (48 + l .rest) ∙ l .inv .size
+    length-set (l .text) (c .before .before .args .at .0) (48 + l .rest) ∙ l .inv .size
 
 returns : tie.Need-returns Inv-loop μ-loop
 returns c = putting-last (c .before .loop .inv) (omega arith) (omega arith)

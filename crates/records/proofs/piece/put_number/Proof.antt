@@ -7,39 +7,20 @@ use lib.ListN.{length-append}
 use Rattle.octets.proofs.Laws.Over.{over-more}
 use Rattle.records.specs.Decimal.{decimal}
 use borrow.Author.Needs.{needs}
+use Rattle.octets.proofs.Laws.Steps.{the}
 use Rattle.records.proofs.piece.put_number.Statement.{statement}
 use Rattle.records.proofs.piece.put_number.Tie as tie
 
-digit-count-requires : tie.Need-digit-count-requires
-digit-count-requires c κs = search needs
-
-put-digits-requires : tie.Need-put-digits-requires
-put-digits-requires c κs = search needs
-
-add-text : tie.Need-add-text
-add-text c = search needs
-
-slice-write-text : tie.Need-slice-write-text
-slice-write-text c = search needs
-
-add-result : tie.Need-add-result
-add-result c = search needs
-
-add-result-2 : tie.Need-add-result-2
-add-result-2 c = search needs
-
-same-length : tie.Need-same-length
-same-length c = search needs
-
 returns : tie.Need-returns
 returns c =
-    let a = c .before .before .before .before .before .before .args in
-    let counted = c .before .before .before .before .digit-count in
-    let size = length-append (decimal (a .n)) (a .after ∷ []) in (
+    let a = the tie.Start (search) .args in
+    let counted = the tie.After-digit-count (search) .digit-count in
+    let size = length-append (decimal (a .n)) (a .after ∷ []) in
+    let w = the tie.After-put-digits (search) .put-digits .ensures in (
       omega (arith, size, counted .ensures .0),
       (
         omega (arith, counted .ensures .1),
-        over-more (a .at) (decimal (a .n)) (now (a .text)) (a .at + counted .result) (a .after) (c .before .before .put-digits .ensures) (omega (arith, counted .ensures .0)) (omega arith) (omega (arith, c .before .before)),
+        over-more (a .at .0) (decimal (a .n)) (now (a .text)) (a .at .0 + counted .result .0) (a .after) w (omega (arith, counted .ensures .0)) (omega arith) (omega arith),
       ),
     )
 
@@ -47,11 +28,10 @@ pub put-number-spec : {M : Type 1} → statement M
 put-number-spec =
     tie.close
     (tie.spec
-    digit-count-requires
-    put-digits-requires
-    add-text
-    slice-write-text
-    add-result
-    add-result-2
-    same-length
+    (λ c κs. search needs)
+    (λ c κs. search needs)
+    (λ c. search needs)
+    (λ c. search needs)
+    (λ c. search needs)
+    (λ c. search needs)
     returns)

@@ -30,7 +30,7 @@ returns : tie.Need-returns
 returns c =
     let a = c .before .before .before .before .before .before .args in
     let word = now (a .word) in
-    (refl, copied-lent (a .at) (length word) (now (a .text)) (omega arith) word (c .before .before .copy .last .1 .0) refl (c .before .before .copy .ensures))
+    (refl, copied-lent (a .at .0) (length word) (now (a .text)) (omega arith) word (c .before .before .copy .last .1 .0) refl (c .before .before .copy .ensures))
 
 pub put-word-spec : {M : Type 1} → statement M
 put-word-spec =

@@ -17,9 +17,10 @@ use Rattle.rules.specs.Summary.{summaryOf}
 use Rattle.rules.specs.declared.properties.PropertiesFields.{PropertiesFields}
 use Rattle.rules.proofs.Laws.Accepted.{judge-passed}
 use Rattle.rules.proofs.Laws.Judged.{headerMask, judged-eq, length-headerMask, length-propertiesBits}
+use Rattle.reading.proofs.Laws.Passed.{Ends, section-ends}
 use Rattle.support.specs.Laid.{HeaderLaid, SectionLaid}
 use Rattle.support.proofs.Laws.Copied.{Copied, copied-next}
-use Rattle.support.proofs.Laws.Laid.{Ends, properties-laid, section-ends}
+use Rattle.support.proofs.Laws.Laid.{properties-laid}
 use borrow.Author.Needs.{needs}
 use Rattle.support.proofs.copy.copy_section.Statement.{statement}
 use Rattle.support.proofs.copy.copy_section.Tie as tie

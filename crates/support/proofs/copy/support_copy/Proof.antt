@@ -1,5 +1,5 @@
 -- The refusal and the output's length pick the case.
-use Prim.Native.Nat.{ℕ, _+_, _≤_, _<_, min}
+use Prim.Native.Nat.{ℕ}
 use denote.Ref.{now}
 use mathlib.Core.Path.{_≡_, ap, subst, sym, _∙_}
 use mathlib.Core.Bool.{Bool}
@@ -10,20 +10,16 @@ use lib.ListN.{drop, length}
 use Rattle.octets.specs.Over.{over}
 use Rattle.octets.proofs.Laws.Steps.{the}
 use Rattle.rules.specs.Judged.{copyOf, judged}
-use Rattle.rules.specs.Properties.{propertiesLength}
 use Rattle.rules.specs.Reading.{fieldsAt, judge, startAt, summaryAt}
-use Rattle.rules.specs.Refusal.{bytes, limit}
+use Rattle.rules.specs.Refusal.{bytes}
 use Rattle.rules.specs.Support.{copyAnswer, copyBytes, supportAnswer, supportBytes}
-use Rattle.rules.specs.declared.properties.PropertiesFields.{PropertiesFields}
 use Rattle.rules.specs.declared.refusal.Refusal.{Refusal}
 use Rattle.rules.specs.declared.section.Output.the-variants.{Written}
 use Rattle.rules.proofs.Laws.Accepted.{judge-passed, summarize-passed, summarize-refused}
 use Rattle.rules.proofs.Laws.Judged.{judged-le, length-judged}
 use Rattle.rules.proofs.Laws.Masked.{length-masked-le}
-use Rattle.reading.proofs.Laws.Fields.{Passed, accepted}
-use Rattle.reading.specs.Fields.{propertiesRead}
+use Rattle.reading.proofs.Laws.Passed.{end-told, fields-told, start-told}
 use Rattle.support.specs.Laid.{SectionLaid}
-use Rattle.support.proofs.Laws.Laid.{section-ends}
 use borrow.Author.Needs.{needs}
 use Rattle.support.proofs.copy.support_copy.Statement.{statement}
 use Rattle.support.proofs.copy.support_copy.Tie as tie
@@ -46,32 +42,29 @@ none : (c : tie.Else1) → judge (first c) (input c) .number ≡ 0
 unfolding first input
 none c = sym (ap (λ (x : Refusal). x .number) (the tie.After-judge (search) .judge .ensures)) ∙ c .if1 .left
 
-read : (c : tie.Else1) → Passed (first c) (input c)
-read c = accepted (first c) (input c) (none c)
-
 start : (c : tie.After-properties-start) → c .properties-start .result .0 ≡ startAt (first (c .before)) (input (c .before))
 unfolding first input
-start c = c .properties-start .ensures ∙ read (c .before) .start .read
+start c = start-told (first (c .before)) (input (c .before)) (none (c .before)) (c .properties-start .ensures)
 
 fields : (c : tie.After-properties-fields)
     → c .properties-fields .result ≡ fieldsAt (first (c .before .before)) (input (c .before .before))
 unfolding first input
 fields c =
-    c .properties-fields .ensures .0 ∙ ap (propertiesRead (input (c .before .before))) (start (c .before)) ∙ read (c .before .before) .fields
+    let past = c .before .before in
+    fields-told (first past) (input past) (none past) (c .before .properties-start .ensures) (c .properties-fields .ensures .0)
 
--- the section ends within the limit, so the end is not cut
-end-told : (c : tie.After-section-end)
+end : (c : tie.After-section-end)
     → c .section-end .result .0 ≡ summaryAt (first (c .before .before .before)) (input (c .before .before .before)) .parts .«section_length» .0
-end-told c =
+unfolding first input
+end c =
     let past = c .before .before .before in
-    let e = section-ends (first past) (input past) (none past) in
-    let f = ap propertiesLength (fields (c .before)) in
-    omega (arith, c .section-end .ensures, start (c .before .before), e .end, e .small)
+    end-told (first past) (input past) (none past) (c .before .before .properties-start .ensures) (c .before .properties-fields .ensures .0)
+    (c .section-end .ensures)
 
 returns-2 : tie.Need-returns-2
 unfolding first input supportAnswer supportBytes copyAnswer copyBytes
 returns-2 c =
-    let end = end-told (search) in
+    let size = end (search) in
     let out = now (the tie.Start (search) .args .out) in
     let short = lt-ltb (length out) (summaryAt (first (search)) (input (search)) .parts .«section_length» .0) (omega arith) in
     let e = summarize-passed (first (search)) (input (search)) (none (search)) in
@@ -84,7 +77,7 @@ copy-section-requires c κs =
       passed = none (search);
       fields = fields (search);
       start = start (search);
-      end = end-told (search);
+      end = end (search);
       output = omega arith;
     }
 
@@ -94,13 +87,13 @@ returns-3 c =
     let m = summaryAt (first (search)) (input (search)) in
     let s = input (search) in
     let out = now (the tie.Start (search) .args .out) in
-    let end = end-told (search) in
+    let size = end (search) in
     let e = summarize-passed (first (search)) s (none (search)) in
     let room = le-ltb (length out) (m .parts .«section_length» .0) (omega arith) in
     let a = judge-passed (first (search)) s .0 (none (search)) in
-    let size = length-masked-le (judged m) s (judged-le (first (search)) s m a) ∙ length-judged (first (search)) s m a in (
-      rw (e, room) (ap (λ (n : ℕ). Written (bytes n)) end),
-      rw (e, room) (c .before .before .copy-section .ensures ∙ ap (λ (k : ℕ). copyOf m s ++ drop k out) size),
+    let whole = length-masked-le (judged m) s (judged-le (first (search)) s m a) ∙ length-judged (first (search)) s m a in (
+      rw (e, room) (ap (λ (n : ℕ). Written (bytes n)) size),
+      rw (e, room) (c .before .before .copy-section .ensures ∙ ap (λ (k : ℕ). copyOf m s ++ drop k out) whole),
     )
 
 pub support-copy-spec : {M : Type 1} → statement M

@@ -1,0 +1,44 @@
+-- Where the MessagePropertiesHeader begins, its fields and where the section ends, as the code reads them of an accepted section.
+use Prim.Native.Nat.{ℕ, _+_, _≤_, min}
+use mathlib.Core.Path.{_≡_, ap, _∙_}
+use mathlib.Core.Bool.{Bool}
+use mathlib.Core.List.{List}
+use native.Mathlib.Omega.{arith}
+use lib.ListN.{length}
+use Rattle.rules.specs.Properties.{propertiesLength}
+use Rattle.rules.specs.Reading.{fieldsAt, judge, startAt, summaryAt}
+use Rattle.rules.specs.Refusal.{limit}
+use Rattle.rules.specs.Summary.{summaryOf}
+use Rattle.rules.specs.declared.properties.PropertiesFields.{PropertiesFields}
+use Rattle.rules.proofs.Laws.Accepted.{judge-passed, section-fits}
+use Rattle.reading.specs.Fields.{propertiesRead, startRead}
+use Rattle.reading.proofs.Laws.Fields.{accepted}
+
+-- the section ends behind its MessagePropertiesHeader, within the limit and the input
+pub record Ends (first : Bool) (s : List ℕ) (size : ℕ) : Type 0 where
+  pub end : size ≡ startAt first s + propertiesLength (fieldsAt first s)
+  pub small : size ≤ limit
+  pub input : size ≤ length s
+
+pub section-ends : (first : Bool) (s : List ℕ) → judge first s .number ≡ 0
+    → Ends first s (summaryAt first s .parts .«section_length» .0)
+unfolding summaryAt summaryOf startAt
+section-ends first s e =
+    let a = judge-passed first s .0 e .properties in
+    let fits = section-fits a in
+    record { end = fits .size; small = omega (arith, fits .size, fits .small); input = a .reaches }
+
+module _ (first : Bool) (s : List ℕ) (none : judge first s .number ≡ 0) where
+  pub start-told : {at : ℕ} → at ≡ startRead first s → at ≡ startAt first s
+  start-told e = e ∙ accepted first s none .start .read
+
+  pub fields-told : {at : ℕ} {f : PropertiesFields} → at ≡ startRead first s → f ≡ propertiesRead s at → f ≡ fieldsAt first s
+  fields-told start e = e ∙ ap (propertiesRead s) (start-told start) ∙ accepted first s none .fields
+
+  -- the section ends within the limit, so the end is not cut
+  pub end-told : {at size : ℕ} {f : PropertiesFields} → at ≡ startRead first s → f ≡ propertiesRead s at
+      → size ≡ min (limit + 1) (at + propertiesLength f) → size ≡ summaryAt first s .parts .«section_length» .0
+  end-told start read e =
+      let ends = section-ends first s none in
+      let f = ap propertiesLength (fields-told start read) in
+      omega (arith, e, start-told start, ends .end, ends .small)

@@ -39,7 +39,7 @@ use Rattle.ugbariteyo.specs.Defaulted.{answerWith, defaultedAnswer}
 use Rattle.ugbariteyo.specs.Output.{outputAnswer}
 use Rattle.ugbariteyo.specs.Queue.{imageAnswer}
 use Rattle.ugbariteyo.specs.Record.{found, recordFilled}
-use Rattle.ugbariteyo.specs.Refusals.{ListedTold, NumberTells, Told, WrittenTold}
+use Rattle.ugbariteyo.specs.Refusals.{ListedTold, NumberTells, ReadingTold, Told, WrittenTold}
 use Rattle.ugbariteyo.specs.Section.{readingAnswer}
 use Rattle.ugbariteyo.specs.Send.{sentAnswer}
 
@@ -52,13 +52,11 @@ module _ {A B : Type 0} (accepted : B → A) where
       record { zero-accepted = λ e. absurd (some e); accepted-zero = λ w e. absurd (other w e) }
 
 -- reading
-reading : (first : Bool) (s : List ℕ)
-    → Told Reading·Accepted (read first s) (readingAnswer (read first s) .refusal .number) (readingAnswer (read first s) .section)
+reading : (first : Bool) (s : List ℕ) → ReadingTold (read first s)
 unfolding read summarize fullReading readingAnswer
 reading first s = go (eqb (judge first s .number) 0) refl
   where
-    go : (b : Bool) → eqb (judge first s .number) 0 ≡ b
-        → Told Reading·Accepted (read first s) (readingAnswer (read first s) .refusal .number) (readingAnswer (read first s) .section)
+    go : (b : Bool) → eqb (judge first s .number) 0 ≡ b → ReadingTold (read first s)
     go true e = rw e (told-accepted Reading·Accepted (sectionOf (summaryAt first s) s))
     go false e = rw e (told-refused Reading·Accepted _ _ _ (eqb-false (judge first s .number) 0 e) (λ w f. let z : _≡_ {A = ℕ} 0 1 = cc in omega arith))
 

@@ -19,7 +19,9 @@ use rules::section::CorrelationId;
 use rules::section::Part;
 ghost use mathlib.Core.Path.{_≡_};
 ghost use Rattle.requests.specs.Request.{sendRequest};
-ghost use Rattle.ugbariteyo.specs.Defaulted.{defaultedAnswer, handlingAnswer, noDefaulted, noHandling, noNumber, noSender, numberAnswer, propertiesAnswer, providerTypeAnswer, senderAnswer};
+ghost use Rattle.ugbariteyo.specs.Defaulted.{defaultedAnswer, handlingAnswer, numberAnswer, propertiesAnswer};
+ghost use Rattle.ugbariteyo.specs.Defaulted.{noDefaulted, noHandling, noNumber, noSender};
+ghost use Rattle.ugbariteyo.specs.Defaulted.{providerTypeAnswer, senderAnswer};
 ghost use Rattle.ugbariteyo.specs.Request.{requestOf};
 
 // What no section carries.
@@ -227,7 +229,8 @@ pub extern "C" fn ugb_defaulted_positional(
     extension: &[u8],
     body: &[u8],
 ) -> UgbDefaulted
-    ensures { λ r. ⌜ r ≡ defaultedAnswer (sendRequest (requestOf request) title «sender_id» «encryption_key» signature «sender_cert» «provider_name» extension body) (request .«correlation_id») ⌝ }
+    ensures { λ r. ⌜ r ≡ defaultedAnswer (sendRequest (requestOf request) title «sender_id» «encryption_key»
+        signature «sender_cert» «provider_name» extension body) (request .«correlation_id») ⌝ }
 {
     let given = request_of(request);
     let correlation_id = request.correlation_id;

@@ -9,10 +9,9 @@ use rules::section::Output;
 use sending::send::send;
 ghost use mathlib.Core.Path.{_≡_};
 ghost use Rattle.requests.specs.Request.{sendRequest};
-ghost use Rattle.requests.specs.Section.{first};
-ghost use Rattle.sending.specs.Send.{sendAnswer, sendBytes};
+ghost use Rattle.sending.specs.Send.{sendBytes};
 ghost use Rattle.ugbariteyo.specs.Request.{requestOf};
-ghost use Rattle.ugbariteyo.specs.Send.{sentAnswer};
+ghost use Rattle.ugbariteyo.specs.Send.{sent, sentAnswer};
 
 // What reading needs beside the bytes: whether a SecurityHeader stands first in them.
 #[repr(C)]
@@ -52,8 +51,10 @@ pub extern "C" fn ugb_send_positional(
     body: &[u8],
     out: &mut [u8],
 ) -> UgbSent
-    ensures { λ r. ⌜ r ≡ sentAnswer (first (sendRequest (requestOf request) title «sender_id» «encryption_key» signature «sender_cert» «provider_name» extension body)) (sendAnswer (sendRequest (requestOf request) title «sender_id» «encryption_key» signature «sender_cert» «provider_name» extension body) (now (out .entry))) ⌝ }
-    ensures { λ _. ⌜ now (out .exit) ≡ sendBytes (sendRequest (requestOf request) title «sender_id» «encryption_key» signature «sender_cert» «provider_name» extension body) (request .«correlation_id») (now (out .entry)) ⌝ }
+    ensures { λ r. ⌜ r ≡ sent (sendRequest (requestOf request) title «sender_id» «encryption_key»
+        signature «sender_cert» «provider_name» extension body) (now (out .entry)) ⌝ }
+    ensures { λ _. ⌜ now (out .exit) ≡ sendBytes (sendRequest (requestOf request) title «sender_id» «encryption_key»
+        signature «sender_cert» «provider_name» extension body) (request .«correlation_id») (now (out .entry)) ⌝ }
 {
     let given = request_of(request);
     let correlation_id = request.correlation_id;

@@ -69,7 +69,7 @@ fn body_of(given: bool, allocation: Bytes) -> Body
     Body::Absent
 }
 
-pub(crate) fn request_of(q: UgbRequest) -> Request
+pub fn request_of(q: UgbRequest) -> Request
     ensures { λ r. ⌜ r ≡ requestOf q ⌝ }
 {
     Request {

@@ -62,8 +62,8 @@
 //! # Building
 //!
 //! The proved library is `libugbariteyo.a`, for x86-64 Linux. `build.rs` links it from the directory in the variable
-//! `UGBARITEYO_LIB_DIR`, else from the repository's `target/staticlib`. Where it is not there yet, the first build
-//! makes it with `rt staticlib ugbariteyo`, which takes minutes and says so on the terminal. An archive that is there
+//! `UGBARITEYO_LIB_DIR`, else from the repository's `target/lib`. Where it is not there yet, the first build
+//! makes it with the script `archive`, which takes minutes and says so on the terminal. An archive that is there
 //! is taken as it is: after a change of the proved crates, run that command again.
 
 #![deny(missing_docs)]

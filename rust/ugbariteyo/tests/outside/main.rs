@@ -70,7 +70,7 @@ fn a_copy_that_is_told_where_the_library_lies() -> io::Result<()> {
     fs::create_dir(&copy)?;
     let taken = ["Cargo.toml", "build.rs", "src"].map(|name| Path::new(CRATE).join(name));
     assert!(Command::new("cp").arg("-r").args(taken).arg(&copy).status()?.success());
-    let library = env::var_os(LIB_DIR).map_or(Path::new(CRATE).join("../../target/staticlib"), PathBuf::from);
+    let library = env::var_os(LIB_DIR).map_or(Path::new(CRATE).join("../../target/lib"), PathBuf::from);
     assert_eq!(printed(&outside.run(&copy, Some(&library))?), PRINTED);
 
     let untold = outside.run(&copy, None)?;

@@ -1,8 +1,8 @@
 -- The answer is handed on, of the request in the library's own form, with whether a SecurityHeader stands first.
 use borrow.Author.Needs.{needs}
 use Rattle.octets.proofs.Laws.Steps.{the}
-use Rattle.ugbariteyo.proofs.send.ugb_send_positional.Statement.{statement}
-use Rattle.ugbariteyo.proofs.send.ugb_send_positional.Tie as tie
+use Rattle.sender.proofs.ugb_send_positional.Statement.{statement}
+use Rattle.sender.proofs.ugb_send_positional.Tie as tie
 
 pub ugb-send-positional-spec : {M : Type 1} → statement M
 ugb-send-positional-spec =

@@ -28,6 +28,20 @@ impl Window {
         }
     }
 
+    // The same from another byte on.
+    pub fn from(self, start: Bytes) -> Window
+        ensures { λ r. ⌜ r .start .0 ≡ start .0 ⌝ }
+        ensures { λ r. ⌜ r .end .0 ≡ self .end .0 ⌝ }
+    {
+        let end = self.end;
+        Window {
+            start,
+            end,
+            is_over: self.is_over,
+            has_failed: self.has_failed,
+        }
+    }
+
     // How many bytes are held.
     pub fn held(self) -> Bytes
         ensures { λ r. ⌜ r .0 ≡ held self ⌝ }

@@ -27,6 +27,7 @@ use streams::output::tell;
 use streams::output::tell_number;
 use summary::summary;
 use support::copy::support_copy;
+use words::Given;
 use words::Words;
 use words::given_words;
 use words::tell_usage;
@@ -85,12 +86,7 @@ fn tell_too_long() {
     tell(b" bytes, and this program reads no more; a section has at most 4,194,304\n");
 }
 
-fn main() {
-    let words = given_words();
-    if !words.is_known {
-        tell_usage();
-        return;
-    }
+fn inspect_input(words: Words) {
     let mut section = buffer();
     let filled = fill(&mut section);
     let ended = filled.ended;
@@ -98,5 +94,12 @@ fn main() {
         Ended::Failed => {}
         Ended::Full => tell_too_long(),
         Ended::Over => inspect(within(&section, Bytes(0), filled.count), words),
+    }
+}
+
+fn main() {
+    match given_words() {
+        Given::Known(words) => inspect_input(words),
+        Given::Unknown => tell_usage(),
     }
 }

@@ -3,41 +3,33 @@ use streams::output::tell;
 use streams::word::is_word;
 
 pub(crate) struct Words {
-    pub is_known: bool,
     pub security_first: bool,
     pub is_private: bool,
 }
 
-fn unknown() -> Words {
-    Words {
-        is_known: false,
-        security_first: false,
-        is_private: false,
-    }
+pub(crate) enum Given {
+    Known(Words),
+    Unknown,
 }
 
 // `security` or `properties`, and then nothing or `private`. The program's name counts as a word.
-pub(crate) fn given_words() -> Words {
+pub(crate) fn given_words() -> Given {
     let count = os::arg_count();
     let security_first = is_word(1, b"security");
     let is_private = count == 3;
-    if count < 2 {
-        return unknown();
-    }
     if 3 < count {
-        return unknown();
+        return Given::Unknown;
     }
     if !security_first && !is_word(1, b"properties") {
-        return unknown();
+        return Given::Unknown;
     }
     if is_private && !is_word(2, b"private") {
-        return unknown();
+        return Given::Unknown;
     }
-    Words {
-        is_known: true,
+    Given::Known(Words {
         security_first,
         is_private,
-    }
+    })
 }
 
 pub(crate) fn tell_usage() {

@@ -3,7 +3,7 @@
 use std::io;
 
 use independent::generate::{day, long_day, Random};
-use independent::listing::{ended_by, next_record, section_length, Next, RECORD_MOST, SECTION_MOST};
+use independent::listing::{ended_by, next_record, section_length, Next, HEAD, RECORD_MOST, SECTION_MOST};
 use independent::neighbours::{self, List};
 
 use crate::report::{agree, hex, Check, Tally, OFTEN};
@@ -20,13 +20,15 @@ const SEVERAL: usize = 200_000;
 const LARGEST: &str = "length 32768";
 const LARGEST_ACCEPTED: &str = "section of 32768";
 const LARGEST_AT_END: &str = "length 32768 next to a buffer's end";
+const HEAD_AT_END: &str = "head cut by a buffer's end";
 const TOO_LONG: &str = "length 32769";
 const WRONG_HEAD: &str = "wrong head after records";
 const CUT_HEAD: &str = "cut head after records";
 const CUT_SECTION: &str = "cut section after records";
 const LONG: &str = "over 200 KB in and out";
-/// How often they are to meet a file that is long in and out.
+/// How often they are to meet a file that is long in and out, and a head that a buffer's end cuts.
 const LONG_LEAST: u64 = 5;
+const HEAD_LEAST: u64 = 20;
 
 /// Compares the listings of generated day files that hold `records` records or more: long ones, and short ones that end
 /// in a head or a section that is wrong or cut.
@@ -37,6 +39,7 @@ pub fn run(sides: Sides<'_>, records: u64, r: &mut Random) -> io::Result<Tally> 
         tally.is_to_meet(what, OFTEN);
     }
     tally.is_to_meet(LONG, LONG_LEAST);
+    tally.is_to_meet(HEAD_AT_END, HEAD_LEAST);
     add(&mut tally, sides, &[], Source::Pipe)?;
     while tally.cases() < records {
         let long = long_day(r);
@@ -67,6 +70,7 @@ fn survey(tally: &mut Tally, file: &[u8]) {
     while let Next::Record { size, answer } = next_record(rest) {
         let at = file.len() - rest.len();
         tally.count(answer.map(|_| ()).map_err(|refusal| refusal.number));
+        tally.meet_if((1..HEAD).contains(&(buffered - at)), HEAD_AT_END);
         if size == RECORD_MOST {
             tally.meet(LARGEST);
             tally.meet_if((at + size).abs_diff(buffered) < 10, LARGEST_AT_END);

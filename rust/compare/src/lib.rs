@@ -1,7 +1,7 @@
 //! Holds the proved library against the independent one: a header is read once by each, and the two have to agree on
 //! every input.
 //!
-//! [`side`] puts both behind one interface; [`sections`], [`writing`], [`queues`], [`requests`] and [`listing`] compare
+//! [`side`] puts both behind one interface; [`sections`], [`writing`], [`queues`], [`requests`], [`listing`] and [`copies`] compare
 //! two sides on generated cases, [`sweeps`] and [`examples`] on fixed ones; [`properties`] says what has to hold of one
 //! side alone. Each takes its sides as arguments, so that a test can put a wrong one there.
 
@@ -9,6 +9,7 @@
 #![warn(missing_docs)]
 
 pub mod bits;
+pub mod copies;
 pub mod examples;
 pub mod lend;
 pub mod library;

@@ -121,7 +121,7 @@ impl Side for Library {
 }
 
 /// A file with this content, open at its start, whose name is gone already.
-fn unnamed(content: &[u8]) -> io::Result<File> {
+pub(crate) fn unnamed(content: &[u8]) -> io::Result<File> {
     static FILES: AtomicUsize = AtomicUsize::new(0);
     let number = FILES.fetch_add(1, Ordering::Relaxed);
     let name = env::temp_dir().join(format!("compare-day-{}-{number}", process::id()));

@@ -1,7 +1,8 @@
 //! `compare [FACTOR] [SEED] [LISTING]`: holds the proved library against the independent one on generated cases.
 //!
 //! FACTOR multiplies the number of cases. SEED is a number, or `random` for one from the clock. LISTING is the listing
-//! program, else the environment's LISTING, else `target/bin/listing` of the repository. The exit status is 1 where
+//! program, else the environment's LISTING, else `target/bin/listing` of the repository; the program `copies` is had in
+//! the same way, by COPIES. The exit status is 1 where
 //! anything differs, or where the cases met something too seldom: a refusal, or two neighbouring steps broken together.
 
 use std::env;
@@ -14,7 +15,7 @@ use compare::library::Library;
 use compare::report::{Tally, HEADER};
 use compare::second::Independent;
 use compare::side::Sides;
-use compare::{examples, listing, properties, queues, requests, sections, sweeps, writing};
+use compare::{copies, examples, listing, properties, queues, requests, sections, sweeps, writing};
 use independent::generate::Random;
 
 /// The seed where none is given.
@@ -75,6 +76,7 @@ fn main() -> ExitCode {
 fn run(arguments: Arguments) -> io::Result<u64> {
     let Arguments { factor, seed, library } = arguments;
     library.listing()?;
+    let copied = copies::program()?;
     println!("seed {seed}, factor {factor}");
     println!("{HEADER}");
     let mut seeds = Random::new(seed);
@@ -101,6 +103,7 @@ fn run(arguments: Arguments) -> io::Result<u64> {
     print(queues::run_writing(sides, 300_000 * factor, &mut generator()), &[13, 30, 31, 32, 33]);
     print(requests::run(sides, 300_000 * factor, &mut generator()), &REQUEST);
     print(listing::run(sides, 100_000 * factor, &mut generator())?, &SECTION);
+    print(copies::run(&copied, copies::faithful(), 50_000 * factor, &mut generator())?, &SECTION);
     println!("{cases} cases, {differences} differences");
     Ok(differences)
 }

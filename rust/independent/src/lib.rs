@@ -7,7 +7,7 @@
 //!
 //! - [`read`], [`support_copy`], [`same_summary`], [`label_shown`]: sections read and copied.
 //! - [`mod@write`]: sections written from values and parts.
-//! - [`queue`]: queue format images, [`request`]: send requests, [`listing`]: day files.
+//! - [`queue`]: queue format images, [`request`]: send requests, [`listing`]: day files, [`copies`]: their copies.
 //! - [`generate`]: cases made at random for a comparison; [`neighbours`]: what steps a case breaks
 //!   together; [`planted`]: wrong versions that a comparison has to find.
 
@@ -15,6 +15,7 @@
 #![warn(missing_docs)]
 
 mod bytes;
+pub mod copies;
 mod copy;
 pub mod generate;
 pub mod listing;

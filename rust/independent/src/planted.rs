@@ -5,6 +5,7 @@
 use std::io::{self, Read, Write};
 
 use crate::bytes::padded;
+use crate::copies::{self, Copies};
 use crate::copy::support_copy_by;
 use crate::listing::{self, Answer, Line, RECORD};
 use crate::order::exchanged;
@@ -167,4 +168,31 @@ fn label_in_bytes(answer: &Answer) -> Answer {
 /// Where the properties header of an accepted section begins.
 fn properties_at(section: &[u8], security_first: bool) -> usize {
     crate::read(section, security_first).map_or(0, |s| s.summary.parts.label.start - PROPERTIES_FIXED)
+}
+
+/// Copies a day file and keeps each record's length, with zeros behind the copy.
+pub fn copy_day_length_kept(file: &[u8]) -> Copies {
+    let record = |section: &[u8], security_first| {
+        let mut bytes = copies::copy(section, security_first)?;
+        bytes.resize(section.len(), 0);
+        Ok(copies::with_head(&bytes, section.len(), security_first))
+    };
+    copies::copy_day_by(record, file)
+}
+
+/// Copies a day file and loses the byte for security first.
+pub fn copy_day_security_lost(file: &[u8]) -> Copies {
+    let record = |section: &[u8], security_first| {
+        let bytes = copies::copy(section, security_first)?;
+        Ok(copies::with_head(&bytes, bytes.len(), false))
+    };
+    copies::copy_day_by(record, file)
+}
+
+/// Copies a day file and writes an empty record for one that is refused.
+pub fn copy_day_refused_written(file: &[u8]) -> Copies {
+    let record = |section: &[u8], security_first| {
+        copies::copied(section, security_first).or(Ok(copies::with_head(&[], 0, security_first)))
+    };
+    copies::copy_day_by(record, file)
 }

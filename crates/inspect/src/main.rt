@@ -23,30 +23,17 @@ use rules::section::Reading;
 use rules::section::Section;
 use streams::input::Ended;
 use streams::input::fill;
-use streams::output::tell;
-use streams::output::tell_number;
+use streams::section::section_buffer;
+use streams::section::tell_too_long;
 use summary::summary;
 use support::copy::support_copy;
 use words::Given;
 use words::Words;
 use words::given_words;
 use words::tell_usage;
-ghost use mathlib.Core.Path.{_≡_};
-ghost use lib.ListN.{length};
-
-// The longest input that is read. Two buffers, each a byte longer, lie on the stack, which has 8 MiB in most systems.
-const LONGEST: usize = 3145728;
-
-// One byte longer, so that a full buffer means that the input is too long. The `ensures` gives only the length, which
-// lending the array as a slice needs.
-fn buffer() -> [u8; 3145729]
-    ensures { λ r. ⌜ 3145729 ≡ length r ⌝ }
-{
-    [0; 3145729]
-}
 
 fn copy(s: &[u8], security_first: bool, page: &mut [u8], held: Held) -> Held {
-    let mut out = buffer();
+    let mut out = section_buffer();
     match support_copy(s, security_first, &mut out) {
         Output::Refused(r) => refused(r, page, held),
         Output::Written(n) => bytes(b"support copy: ", within(&out, Bytes(0), n), page, held),
@@ -80,14 +67,8 @@ fn inspect(s: &[u8], words: Words) {
     flush(&page, held);
 }
 
-fn tell_too_long() {
-    tell(b"inspect: the input is longer than ");
-    tell_number(LONGEST as u64);
-    tell(b" bytes, and this program reads no more; a section has at most 4,194,304\n");
-}
-
 fn inspect_input(words: Words) {
-    let mut section = buffer();
+    let mut section = section_buffer();
     let filled = fill(&mut section);
     let ended = filled.ended;
     match ended {

@@ -1,2 +1,4 @@
 pub mod Copies
+pub mod Example
 pub mod Record
+pub mod Theorems

@@ -77,7 +77,7 @@ module _ (first : Bool) (s : List ℕ) (m : Summary) (e : summarize first s ≡ 
       (λ a. judged .0 (alike .0 a .1), λ j. alike .1 (room, judged .1 j))
 
   -- and then reads the same
-  agrees-reads : (t : List ℕ) → Octets s → Octets t → Agrees m s t → Reads first m s t
+  pub agrees-reads : (t : List ℕ) → Octets s → Octets t → Agrees m s t → Reads first m s t
   agrees-reads t bs bt a = reads first s t m accepted-passed (a .reaches) (agrees-same t bs bt (a .reaches) .0 a)
 
   -- so does the copy
@@ -112,7 +112,7 @@ module _ (first : Bool) (s : List ℕ) (m : Summary) (e : summarize first s ≡ 
       (subst (λ (x : Summary). providerNameOf x s ≡ providerNameOf x t) own (c .«provider_name»)))
 
   -- of two inputs with one summary, the copies are the same exactly where they agree
-  copies-agree : (t : List ℕ) → summarize first t ≡ Accepted m → (copyOf m s ≡ copyOf m t) ↔ Agrees m s t
+  pub copies-agree : (t : List ℕ) → summarize first t ≡ Accepted m → (copyOf m s ≡ copyOf m t) ↔ Agrees m s t
   unfolding copyOf
   copies-agree t et =
       let right = section-passed first t m .0 et in

@@ -8,12 +8,12 @@ use borrow.Author.Tests.{ltb-false, ltb-true}
 use lib.ListN.{length, take, drop, drop-of-length-le, length-append}
 use lib.Seq.{drop-at, drop-drop, drop-length, length-take-le, take-all}
 use lib.Dec.{ltb}
-use Rattle.octets.specs.Number.{toLe}
 use Rattle.octets.specs.Over.{copied, over}
 use Rattle.octets.proofs.Laws.Over.{copied-fits}
 use Rattle.octets.proofs.Laws.Part.{rest-drop}
 use Rattle.records.specs.Head.{headBytes}
 use Rattle.records.specs.declared.head.Head.{Head}
+use Rattle.records.proofs.Laws.Head.{length-head}
 
 -- an output that is shorter has none behind the head
 module _ (out : List ℕ) (at : ℕ) (e : at ≡ min 8 (length out)) where
@@ -40,10 +40,6 @@ module _ (out : List ℕ) (at : ℕ) (e : at ≡ min 8 (length out)) where
   put-behind later =
       let end : at + (length out - at) ≡ length out = omega arith in
       rw (in-front, drop-drop, end, drop-length, append-nil)
-
-pub length-head : (h : Head) → length (headBytes h) ≡ 8
-unfolding headBytes toLe
-length-head h = refl
 
 -- a head put in front
 pub head-put : (h : Head) (out rest : List ℕ) → 8 ≤ length out → copied (headBytes h) (take 8 out ++ rest) ≡ headBytes h ++ rest

@@ -1,13 +1,17 @@
--- A head that is found stands in what is left of the file with its section, which is not above the longest.
+-- A head that is found stands in what is left of the file with its section, which is not above the longest; and what is written as a head
+-- is read as one.
 use Prim.Native.Nat.{ℕ, _+_, _-_, _≤_}
-use mathlib.Core.Path.{_≡_, refl, subst}
+use mathlib.Core.Path.{_≡_, refl, subst, _∙_}
 use mathlib.Core.Bool.{Bool, true, false, not, cond}
-use mathlib.Core.List.{List}
+use mathlib.Core.List.{List, _++_}
 use native.Mathlib.Omega.{arith}
-use borrow.Author.Tests.{ltb-false}
-use lib.ListN.{length, getD}
+use borrow.Author.Tests.{le-ltb, ltb-false, ne-eqb}
+use lib.ListN.{length, getD, take, length-append, List·getD-append}
 use lib.Dec.{eqb, ltb}
-use Rattle.records.specs.Head.{nextHead, sectionSize}
+use Rattle.octets.specs.Number.{toLe}
+use Rattle.octets.proofs.Laws.Number.{le-append, le-cong, le-toLe, length-toLe}
+use Rattle.rules.specs.Refusal.{bytes}
+use Rattle.records.specs.Head.{headBytes, nextHead, sectionSize}
 use Rattle.records.specs.declared.head.Head.{Head}
 use Rattle.records.specs.declared.head.NextHead.{NextHead}
 use Rattle.records.specs.declared.head.NextHead.the-variants.{End, Stop, Found}
@@ -44,3 +48,40 @@ fits s =
 
 pub head-fits : (s : List ℕ) (h : Head) → nextHead s ≡ Found h → HeadFits s h
 head-fits s h e = subst (Fits s) e (fits s)
+
+-- the length in a head's bytes
+size-read : (h : Head) (rest : List ℕ) → h .length .0 ≤ 32768 → sectionSize (headBytes h ++ rest) ≡ h .length .0
+unfolding sectionSize headBytes
+size-read h rest small =
+    let n = h .length .0 in
+    le-append 4 (take 4 (headBytes h)) (toLe 4 n ++ rest) 0 4 refl
+    ∙ le-cong 4 (toLe 4 n ++ rest) (toLe 4 n) 0 0 (λ i l. List·getD-append (toLe 4 n) rest 0 (0 + i) (omega (arith, length-toLe 4 n)))
+    ∙ le-toLe 4 n (omega arith)
+
+pub length-head : (h : Head) → length (headBytes h) ≡ 8
+unfolding headBytes toLe
+length-head h = refl
+
+-- a head that was written, with its section behind it: each test passes
+module _ (n : ℕ) (rest : List ℕ) (small : n ≤ 32768) (room : n ≤ length rest) where
+  abbrev written : Bool → Head
+  written first = record { «security_first» = first; length = bytes n }
+
+  abbrev file : Bool → List ℕ
+  file first = headBytes (written first) ++ rest
+
+  size : (first : Bool) → length (file first) ≡ 8 + length rest
+  size first = simp (length-append, length-head)
+
+  tests : (first : Bool) → eqb (length (file first)) 0 ≡ false → ltb (length (file first)) 8 ≡ false
+      → sectionSize (file first) ≡ n → ltb 32768 n ≡ false → ltb (length (file first) - 8) n ≡ false
+      → nextHead (file first) ≡ Found (written first)
+  unfolding nextHead headBytes
+  tests true some whole length small room = rw (some, whole, length, small, room)
+  tests false some whole length small room = rw (some, whole, length, small, room)
+
+  pub head-read : (first : Bool) → nextHead (file first) ≡ Found (written first)
+  head-read first =
+      let l = size first in
+      tests first (ne-eqb (length (file first)) 0 (λ e. omega arith)) (le-ltb (length (file first)) 8 (omega arith))
+      (size-read (written first) rest small) (le-ltb 32768 n small) (le-ltb (length (file first) - 8) n (omega arith))

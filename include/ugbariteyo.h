@@ -1,19 +1,27 @@
 /*
  * Ugbariteyo for C: reads, judges, copies and writes the section of a message-queue packet (an optional SecurityHeader
- * and a MessagePropertiesHeader), and the queue formats around it. "01" is the paper of exact rules that every function
- * is proved to follow, on every input.
+ * and a MessagePropertiesHeader), the send requests and queue formats around it, and the records of a day's file. "01"
+ * is the paper of exact rules that every function is proved to follow, on every input.
  *
- * Link target/staticlib/libugbariteyo.a, which `rt staticlib ugbariteyo` writes (x86-64 Linux); it needs memcpy and memset, and
- * nothing else.
+ * Link libugbariteyo.a (x86-64 Linux). Installed: cc prog.c $(pkg-config --cflags --libs ugbariteyo). It needs memcpy,
+ * memmove and memset, and nothing else.
  *
  * Every call answers, for every input, and ends. Nothing has to be checked beforehand but the pointers: each one is
  * valid for the length beside it, for the length of the call, and an output overlaps none of the inputs. With a length
- * of 0 any pointer will do, NULL included. Nothing is allocated, kept or shared: the caller owns every byte, any number
- * of threads may call, and a part in an answer is a place in the caller's own input.
+ * of 0 any pointer will do, NULL included; one to a struct points to a struct. Nothing is allocated, kept or shared:
+ * the caller owns every byte, any number of threads may call, and a part in an answer is a place in the caller's own
+ * input.
  *
- * An answer holds a refusal. Its number is 0 (UGB_ACCEPTED) where nothing is refused; else every other value of the
- * answer is 0 or false, and no byte of the output was written. Bytes of an output behind what was written stay as they
- * were. Unnamed bytes between the members of a struct hold anything: compare members, not whole structs.
+ * An answer holds a refusal. Its number is 0 (UGB_ACCEPTED) where nothing is refused, and only there; else every other
+ * value of the answer is 0 or false, and no byte of the output was written. Bytes of an output behind what was written
+ * stay as they were. Unnamed bytes between the members of a struct hold anything: compare members, not whole structs.
+ *
+ *     ugb_reading answer = ugb_read(bytes, length, true);
+ *     if (answer.refusal.number != UGB_ACCEPTED)
+ *         fprintf(stderr, "%s, at %zu\n", ugb_refusal_text(answer.refusal.number), answer.refusal.place);
+ *
+ * Whether a SecurityHeader stands first, no byte of the section says: whoever has the section knows it from where it
+ * came. ugb_send and ugb_next_record say it of theirs. Read the other way, a section may be accepted with wrong values.
  */
 #ifndef UGBARITEYO_H
 #define UGBARITEYO_H
@@ -26,50 +34,99 @@
 extern "C" {
 #endif
 
+#define UGB_VERSION_MAJOR 1
+#define UGB_VERSION_MINOR 0
+#define UGB_VERSION_PATCH 0
+#define UGB_VERSION "1.0.0"
+
 /* 01: a section has at most so many bytes. */
 #define UGB_LIMIT 4194304
 
-/* The numbers of a refusal, in 01's words. */
-enum ugb_refusal_number {
-    UGB_ACCEPTED = 0,                   /* nothing is refused */
-    UGB_INPUT_SHORT = 1,                /* input short: S1, S9, P1, P6; a queue format under 4 bytes */
-    UGB_SENDER_KIND = 2,                /* sender kind: S2 */
-    UGB_AU_OR_AS = 3,                   /* AU or AS not zero: S3 */
-    UGB_EMPTY_OR_DP_CLEAR = 4,          /* empty, or DP clear: S4 */
-    UGB_CERTIFICATE_SIZE = 5,           /* certificate size: S5 */
-    UGB_IDENTITY = 6,                   /* identity: S6, S10 */
-    UGB_PROVIDER = 7,                   /* provider: S7, S11 */
-    UGB_ABOVE_THE_LIMIT = 8,            /* above the limit: S8, P5 */
-    UGB_LABEL_LENGTH = 9,               /* label length: P2; for the writer also a label of an odd number of bytes */
-    UGB_CLASS = 10,                     /* class: P3 */
-    UGB_ALLOCATION = 11,                /* allocation: P4 */
-    UGB_LABEL = 12,                     /* label: P7 */
-    UGB_OUTPUT_SHORT = 13,              /* output short */
-    UGB_VALUE_OUT_OF_RANGE = 20,        /* request: priority, trace, delivery, acknowledge or auditing */
-    UGB_PRIVACY = 21,                   /* request: privacy not 0, 1 or 2 */
-    UGB_PRIVACY_ON_A_DIRECT_QUEUE = 22, /* request: direct queue with privacy not 0 */
-    UGB_ALGORITHM_ABSENT = 23,          /* request: privacy present, algorithm absent */
-    UGB_HASH_ABSENT = 24,               /* request: signature bytes given, hash absent */
-    UGB_REQUEST_IDENTITY = 25,          /* request: identity or its kind */
-    UGB_REQUEST_PROVIDER = 26,          /* request: provider of a signature */
-    UGB_SPLIT_NUMBER = 27,              /* request: the signature's split number */
-    UGB_PART_TOO_LARGE = 28,            /* key, signature or certificate above 65,535 bytes */
-    UGB_QUEUE_TYPE = 30,                /* queue format: type */
-    UGB_QUEUE_SUFFIX = 31,              /* queue format: suffix and flags with that type */
-    UGB_QUEUE_VALUE = 32,               /* queue format: the value's length */
-    UGB_QUEUE_STRING = 33               /* queue format: string */
-};
+/* ---- Refusals */
+
+/* Every refusal: its name behind UGB_, its number, and the rule that was broken. A section is read with 1 to 12 and
+ * written with 28, 2 to 4 and 6 to 12; a request is refused with 8, 10, 11 and 20 to 28; an image is read with 1 (under
+ * 4 bytes) and 30 to 33, and written with 30 to 33; 13 comes last in every call that writes. */
+#define UGB_REFUSALS(X)                                                                                                \
+    X(INPUT_SHORT, 1, "input ends before the section does")                                                            \
+    X(SENDER_KIND, 2, "ST above 2")                                                                                    \
+    X(AU_OR_AS, 3, "AU or AS not zero")                                                                                \
+    X(EMPTY_OR_DP_CLEAR, 4, "all five sizes zero, or DP clear")                                                        \
+    X(CERTIFICATE_SIZE, 5, "SenderCertSize above 65,535")                                                              \
+    X(IDENTITY, 6, "SenderIdSize or identity not as ST asks")                                                          \
+    X(PROVIDER, 7, "ProviderInfoSize or provider info not as DE and signature ask")                                    \
+    X(ABOVE_THE_LIMIT, 8, "longer than 4,194,304 bytes")                                                               \
+    X(LABEL_LENGTH, 9, "LabelLength above 250, or a label of an odd number of bytes")                                  \
+    X(CLASS, 10, "MessageClass not listed")                                                                            \
+    X(ALLOCATION, 11, "AllocationBodySize below MessageSize or above 4,194,304")                                       \
+    X(LABEL, 12, "label in which not only the last unit is zero")                                                      \
+    X(OUTPUT_SHORT, 13, "output too short")                                                                            \
+    X(VALUE_OUT_OF_RANGE, 20,                                                                                          \
+      "priority above 7, trace or delivery above 1, acknowledge above 15, or auditing above 3")                        \
+    X(PRIVACY, 21, "privacy not 0, 1 or 2")                                                                            \
+    X(PRIVACY_ON_A_DIRECT_QUEUE, 22, "direct queue with privacy not 0")                                                \
+    X(ALGORITHM_ABSENT, 23, "privacy present, algorithm absent")                                                       \
+    X(HASH_ABSENT, 24, "signature bytes given, hash absent")                                                           \
+    X(REQUEST_IDENTITY, 25, "sender kind above 2, or identity not as its kind asks")                                   \
+    X(REQUEST_PROVIDER, 26,                                                                                            \
+      "default provider without type 1, or another provider without a name of 1 to 1,024 units")                       \
+    X(SPLIT_NUMBER, 27, "split number minus name length below 1 or above the signature bytes given")                   \
+    X(PART_TOO_LARGE, 28, "key, signature or certificate above 65,535 bytes")                                          \
+    X(QUEUE_TYPE, 30, "queue type above 8")                                                                            \
+    X(QUEUE_SUFFIX, 31, "suffix and flags do not go with the queue type")                                              \
+    X(QUEUE_VALUE, 32, "value length wrong for the queue type")                                                        \
+    X(QUEUE_STRING, 33, "string not ended by its only zero unit, too short or above 1,024 units")
+
+/* UGB_INPUT_SHORT to UGB_QUEUE_STRING, and UGB_ACCEPTED where nothing is refused. */
+#define UGB_REFUSAL_NUMBER(name, number, text) UGB_##name = number,
+enum ugb_refusal_number { UGB_ACCEPTED = 0, UGB_REFUSALS(UGB_REFUSAL_NUMBER) };
+
+/* The rule behind a number; "accepted" for 0. */
+static inline const char *ugb_refusal_text(uint32_t number)
+{
+#define UGB_REFUSAL_TEXT(name, number, text)                                                                           \
+    case number:                                                                                                       \
+        return text;
+    switch (number) {
+    case UGB_ACCEPTED:
+        return "accepted";
+        UGB_REFUSALS(UGB_REFUSAL_TEXT)
+    default:
+        return "unknown refusal";
+    }
+}
 
 typedef struct ugb_refusal {
     uint32_t number; /* one of the numbers above */
-    size_t place;    /* offset of the header being read, or that would be written; 0 for 13, 20 to 33 and requests */
+    size_t place;    /* offset of the header being read, or that would be written; 0 for 13, 28, requests and images */
 } ugb_refusal;
+
+/* ---- Bytes, units and parts */
+
+/* What is lent to a call; where there is none, NULL and 0. */
+typedef struct ugb_bytes {
+    const uint8_t *bytes; /* the first */
+    size_t length;        /* how many */
+} ugb_bytes;
+
+/* The same in 16-bit units. */
+typedef struct ugb_units {
+    const uint16_t *units; /* the first */
+    size_t count;          /* how many */
+} ugb_units;
 
 /* Where a part lies in the input that was read. */
 typedef struct ugb_part {
     size_t start;  /* in bytes, from the input's first byte */
     size_t length; /* in bytes */
 } ugb_part;
+
+/* The bytes of a part of s; NULL and 0 of an empty one. */
+static inline ugb_bytes ugb_bytes_of(ugb_part part, const uint8_t *s)
+{
+    ugb_bytes found = {part.length == 0 ? NULL : s + part.start, part.length};
+    return found;
+}
 
 /* ---- Reading a section */
 
@@ -157,11 +214,16 @@ typedef struct ugb_label {
     ugb_part part; /* else the label, null included; 0 and 0 where the stand-in is shown */
 } ugb_label;
 
-/* The summary of the section at the first of s_length bytes. Bytes behind the section are not read. */
-ugb_summarized ugb_summarize(const uint8_t *s, size_t s_length, bool security_first);
-
-/* The full reading of that section. Refused exactly as ugb_summarize is. */
+/* The full reading of the section at the first of s_length bytes. Bytes behind the section are not read. */
 ugb_reading ugb_read(const uint8_t *s, size_t s_length, bool security_first);
+
+/* The summary alone. Refused exactly as ugb_read is. */
+static inline ugb_summarized ugb_summarize(const uint8_t *s, size_t s_length, bool security_first)
+{
+    ugb_reading reading = ugb_read(s, s_length, security_first);
+    ugb_summarized answer = {reading.refusal, reading.section.summary};
+    return answer;
+}
 
 /* Whether both inputs are accepted, with the same summary, label and provider name by content: exactly when they agree
  * in every judged bit, and exactly when their support copies are the same bytes. */
@@ -177,7 +239,7 @@ typedef struct ugb_output {
     size_t length;       /* how many bytes were written; 0 where refused */
 } ugb_output;
 
-/* The support copy: the section with every private bit zero. Refused as ugb_summarize is, then with 13 where out_length
+/* The support copy: the section with every private bit zero. Refused as ugb_read is, then with 13 where out_length
  * is below the section's length. */
 ugb_output ugb_support_copy(const uint8_t *s, size_t s_length, bool security_first, uint8_t *out, size_t out_length);
 
@@ -193,20 +255,77 @@ typedef struct ugb_section_values {
     uint32_t privacy_level;        /* PrivacyLevel */
     uint32_t hash_algorithm;       /* HashAlgorithm */
     uint32_t encryption_algorithm; /* EncryptionAlgorithm */
+    uint8_t correlation_id[20];    /* CorrelationID */
 } ugb_section_values;
 
-/* The section of these values and parts, padding and X bits zero. The label is 16-bit units with their null, or empty.
- * Refused with 28, then 2 to 4 and 6 to 12 by the steps of reading, then 13. */
-ugb_output ugb_write_section(ugb_section_values values, const uint8_t correlation_id[20], /* CorrelationID, 20 bytes */
-                             const uint8_t *sender_id, size_t sender_id_length,           /* identity */
-                             const uint8_t *encryption_key, size_t encryption_key_length, /* key */
-                             const uint8_t *signature, size_t signature_length,           /* signature */
-                             const uint8_t *sender_cert, size_t sender_cert_length,       /* certificate */
-                             const uint8_t *provider_info, size_t provider_info_length,   /* type and name together */
-                             const uint8_t *label, size_t label_length,                   /* label, in bytes */
-                             const uint8_t *extension, size_t extension_length,           /* extension */
-                             const uint8_t *body, size_t body_length,                     /* body */
-                             uint8_t *out, size_t out_length);
+/* The parts of a section. An absent one has the length 0. */
+typedef struct ugb_section_parts {
+    ugb_bytes sender_id;      /* identity */
+    ugb_bytes encryption_key; /* key */
+    ugb_bytes signature;      /* signature */
+    ugb_bytes sender_cert;    /* certificate */
+    ugb_bytes provider_info;  /* provider info: a 4-byte type, then the name with its null */
+    ugb_bytes label;          /* label: 16-bit units, little-endian, with their null */
+    ugb_bytes extension;      /* extension */
+    ugb_bytes body;           /* body */
+} ugb_section_parts;
+
+/* What the archive has, and the parts as it takes them, in turn: ugb_write_section calls it. */
+#define UGB_BYTES(lent) (lent).bytes, (lent).length
+#define UGB_SECTION_PARTS(parts)                                                                                       \
+    UGB_BYTES((parts)->sender_id), UGB_BYTES((parts)->encryption_key), UGB_BYTES((parts)->signature),                  \
+        UGB_BYTES((parts)->sender_cert), UGB_BYTES((parts)->provider_info), UGB_BYTES((parts)->label),                 \
+        UGB_BYTES((parts)->extension), UGB_BYTES((parts)->body)
+ugb_output ugb_write_section_positional(ugb_section_values values, const uint8_t *sender_id, size_t sender_id_length,
+                                        const uint8_t *encryption_key, size_t encryption_key_length,
+                                        const uint8_t *signature, size_t signature_length, const uint8_t *sender_cert,
+                                        size_t sender_cert_length, const uint8_t *provider_info,
+                                        size_t provider_info_length, const uint8_t *label, size_t label_length,
+                                        const uint8_t *extension, size_t extension_length, const uint8_t *body,
+                                        size_t body_length, uint8_t *out, size_t out_length);
+
+/* The section of these values and parts, padding and X bits zero. Refused with 28, then 2 to 4 and 6 to 12 by the steps
+ * of reading, then 13. */
+static inline ugb_output ugb_write_section(const ugb_section_values *values, const ugb_section_parts *parts,
+                                           uint8_t *out, size_t out_length)
+{
+    return ugb_write_section_positional(*values, UGB_SECTION_PARTS(parts), out, out_length);
+}
+
+/* What the writer takes of a reading of s: what it then writes is what was read, but for X bits and padding, which are
+ * zero. Of a refused reading: zeros, and no parts. */
+static inline ugb_section_values ugb_values_of(const ugb_section *section, const uint8_t *s)
+{
+    const ugb_properties_fields *properties = &section->summary.properties;
+    ugb_bytes correlation_id = ugb_bytes_of(section->correlation_id, s);
+    ugb_section_values values = {section->summary.security_first,
+                                 (uint16_t)section->summary.security.fields.flags,
+                                 properties->flags,
+                                 properties->message_class,
+                                 properties->body_type,
+                                 section->application_tag,
+                                 properties->allocation_body_size,
+                                 properties->privacy_level,
+                                 properties->hash_algorithm,
+                                 properties->encryption_algorithm,
+                                 {0}};
+    for (size_t i = 0; i < correlation_id.length; i++)
+        values.correlation_id[i] = correlation_id.bytes[i];
+    return values;
+}
+
+static inline ugb_section_parts ugb_parts_of(const ugb_section *section, const uint8_t *s)
+{
+    const ugb_security_parts *security = &section->summary.security.parts;
+    const ugb_properties_parts *properties = &section->summary.parts;
+    ugb_section_parts parts = {
+        ugb_bytes_of(security->sender_id, s),     ugb_bytes_of(security->encryption_key, s),
+        ugb_bytes_of(security->signature, s),     ugb_bytes_of(security->sender_cert, s),
+        ugb_bytes_of(security->provider_info, s), ugb_bytes_of(properties->label, s),
+        ugb_bytes_of(properties->extension, s),   ugb_bytes_of(properties->body, s),
+    };
+    return parts;
+}
 
 /* ---- Send requests */
 
@@ -216,7 +335,7 @@ typedef struct ugb_number {
     uint32_t number; /* the number; not looked at where absent, and 0 in an answer */
 } ugb_number;
 
-/* The numbers and marks of a send request (002). Its parts are lent beside it, an absent one with a length of 0. */
+/* The numbers and marks of a send request (002). {0} is a request that gives nothing. */
 typedef struct ugb_request {
     ugb_number priority;             /* priority, 0 to 7; absent: 3. Every other number that is absent counts as 0 */
     ugb_number trace;                /* trace, 0 or 1 */
@@ -233,7 +352,8 @@ typedef struct ugb_request {
     ugb_number provider_type;        /* provider type */
     ugb_number split_number;         /* pulAuthProvNameLenProp; absent: the signature is not cut */
     uint32_t provider_name_length;   /* ulProvNameLen, which is taken from the split number */
-    bool correlation_given;          /* whether a CorrelationID is given; else it is 20 zero bytes, whatever is lent */
+    bool correlation_given;          /* whether a CorrelationID is given; else it is zero, whatever stands there */
+    uint8_t correlation_id[20];      /* CorrelationID */
     bool body_given;                 /* whether a body is given; else its size and allocation are 0, whatever is lent */
     size_t allocation_body_size;     /* ulAllocBodyBufferInBytes, of a body that is given */
     bool transaction;                /* whether the message is sent in a transaction */
@@ -241,6 +361,18 @@ typedef struct ugb_request {
     bool default_provider;           /* whether the default provider signs */
     bool encryption;                 /* whether encryption is asked for; without a key it counts as not asked */
 } ugb_request;
+
+/* The parts of a request. An absent one has the length 0. */
+typedef struct ugb_request_parts {
+    ugb_units title;          /* title: cut at its first null and at 249 units; a null is added */
+    ugb_bytes sender_id;      /* identity */
+    ugb_bytes encryption_key; /* key */
+    ugb_bytes signature;      /* signature bytes, before the split number cuts them */
+    ugb_bytes sender_cert;    /* certificate */
+    ugb_units provider_name;  /* provider name, without a null */
+    ugb_bytes extension;      /* extension */
+    ugb_bytes body;           /* body */
+} ugb_request_parts;
 
 /* What no section carries. */
 typedef struct ugb_handling {
@@ -287,31 +419,40 @@ typedef struct ugb_defaulted_answer {
     uint8_t correlation_id[20]; /* the CorrelationID, zero where absent or refused */
 } ugb_defaulted_answer;
 
-/* The defaulted properties of a request: 01's steps in their order, but for the output's. Title and provider name are
- * 16-bit units, and their lengths count units. */
-ugb_defaulted_answer ugb_defaulted(ugb_request request, const uint8_t correlation_id[20], /* 20 bytes */
-                                   const uint16_t *title, size_t title_units,             /* title, in units */
-                                   const uint8_t *sender_id, size_t sender_id_length,     /* identity */
-                                   const uint8_t *encryption_key, size_t encryption_key_length, /* key */
-                                   const uint8_t *signature, size_t signature_length,           /* signature bytes */
-                                   const uint8_t *sender_cert, size_t sender_cert_length,       /* certificate */
-                                   const uint16_t *provider_name, size_t provider_name_units,   /* name, in units */
-                                   const uint8_t *extension, size_t extension_length,           /* extension */
-                                   const uint8_t *body, size_t body_length);                    /* body */
+typedef struct ugb_sent {
+    ugb_refusal refusal; /* 0, or as ugb_defaulted refuses, or 13; at place 0 */
+    size_t length;       /* how many bytes were written; 0 where refused */
+    bool security_first; /* whether a SecurityHeader stands first in them, as ugb_read asks; false where refused */
+} ugb_sent;
 
-/* The section of a request, at the front of the output. Refused as ugb_defaulted refuses, then 13, at place 0; the
- * output is then as it was. Whether it begins with a SecurityHeader: it does where identity, key, signature or
- * certificate is not empty. */
-ugb_output ugb_send(ugb_request request, const uint8_t correlation_id[20],       /* 20 bytes */
-                    const uint16_t *title, size_t title_units,                   /* title, in units */
-                    const uint8_t *sender_id, size_t sender_id_length,           /* identity */
-                    const uint8_t *encryption_key, size_t encryption_key_length, /* key */
-                    const uint8_t *signature, size_t signature_length,           /* signature bytes */
-                    const uint8_t *sender_cert, size_t sender_cert_length,       /* certificate */
-                    const uint16_t *provider_name, size_t provider_name_units,   /* name, in units */
-                    const uint8_t *extension, size_t extension_length,           /* extension */
-                    const uint8_t *body, size_t body_length,                     /* body */
-                    uint8_t *out, size_t out_length);                            /* lent output */
+/* What the archive has, and the parts as it takes them, in turn: ugb_defaulted and ugb_send call them. */
+#define UGB_REQUEST_PARAMETERS                                                                                         \
+    ugb_request request, const uint16_t *title, size_t title_units, const uint8_t *sender_id, size_t sender_id_length, \
+        const uint8_t *encryption_key, size_t encryption_key_length, const uint8_t *signature,                         \
+        size_t signature_length, const uint8_t *sender_cert, size_t sender_cert_length, const uint16_t *provider_name, \
+        size_t provider_name_units, const uint8_t *extension, size_t extension_length, const uint8_t *body,            \
+        size_t body_length
+#define UGB_UNITS(lent) (lent).units, (lent).count
+#define UGB_REQUEST_PARTS(parts)                                                                                       \
+    UGB_UNITS((parts)->title), UGB_BYTES((parts)->sender_id), UGB_BYTES((parts)->encryption_key),                      \
+        UGB_BYTES((parts)->signature), UGB_BYTES((parts)->sender_cert), UGB_UNITS((parts)->provider_name),             \
+        UGB_BYTES((parts)->extension), UGB_BYTES((parts)->body)
+ugb_defaulted_answer ugb_defaulted_positional(UGB_REQUEST_PARAMETERS);
+ugb_sent ugb_send_positional(UGB_REQUEST_PARAMETERS, uint8_t *out, size_t out_length);
+
+/* The defaulted properties of a request: 01's steps in their order, but for the output's. */
+static inline ugb_defaulted_answer ugb_defaulted(const ugb_request *request, const ugb_request_parts *parts)
+{
+    return ugb_defaulted_positional(*request, UGB_REQUEST_PARTS(parts));
+}
+
+/* The section of a request, at the front of the output. It begins with a SecurityHeader where identity, key, signature
+ * or certificate is not empty. */
+static inline ugb_sent ugb_send(const ugb_request *request, const ugb_request_parts *parts, uint8_t *out,
+                                size_t out_length)
+{
+    return ugb_send_positional(*request, UGB_REQUEST_PARTS(parts), out, out_length);
+}
 
 /* ---- Queue formats */
 
@@ -330,12 +471,12 @@ enum ugb_queue_type {
 
 /* The suffix type, the low nibble of suffix_and_flags. */
 enum ugb_queue_suffix {
-    UGB_SUFFIX_NONE = 0x00,
-    UGB_SUFFIX_JOURNAL = 0x01,
-    UGB_SUFFIX_DEADLETTER = 0x02,
-    UGB_SUFFIX_DEADXACT = 0x03,
-    UGB_SUFFIX_XACTONLY = 0x04,
-    UGB_SUFFIX_SUBQUEUE = 0x05
+    UGB_SUFFIX_NONE = 0x00,       /* with flags 0x00, any type but 4 */
+    UGB_SUFFIX_JOURNAL = 0x01,    /* with flags 0x80, any type but 5, 6, 7 */
+    UGB_SUFFIX_DEADLETTER = 0x02, /* with flags 0x80, any type but 1, 2, 5, 6, 7 */
+    UGB_SUFFIX_DEADXACT = 0x03,   /* with flags 0x80, types 3 and 4 */
+    UGB_SUFFIX_XACTONLY = 0x04,   /* with either flags, type 5 */
+    UGB_SUFFIX_SUBQUEUE = 0x05    /* with flags 0x00, type 8 */
 };
 
 /* The flags, the high nibble of suffix_and_flags, in its place. */
@@ -351,7 +492,7 @@ typedef struct ugb_image_read {
     ugb_queue_format format; /* type, suffix and flags; zero where refused */
     ugb_part fixed;          /* the GUID, OBJECTID or MULTICAST_ID; 0 and 0 where the type has none, or refused */
     ugb_part text;           /* the string, null included; 0 and 0 where the type has none, or refused */
-} ugb_image_read;
+} ugb_image_read; /* ugb_write_image of the format and the bytes at both parts gives the image again */
 
 /* Reads the s_length bytes, which are exactly one image. */
 ugb_image_read ugb_read_image(const uint8_t *s, size_t s_length);
@@ -359,6 +500,39 @@ ugb_image_read ugb_read_image(const uint8_t *s, size_t s_length);
 /* The image of a queue format; fixed and text are empty where the type has none. Refused with 30 to 33, then 13. */
 ugb_output ugb_write_image(ugb_queue_format format, const uint8_t *fixed, size_t fixed_length, const uint8_t *text,
                            size_t text_length, uint8_t *out, size_t out_length);
+
+/* ---- A day's file */
+
+/* The file is records in a row, each a head of 8 bytes and a section: 0x57 0x52, a byte 1 or 0 for a SecurityHeader
+ * first or none, a zero byte, and the section's length in 4 bytes, at most 32,768. */
+enum ugb_next {
+    UGB_END = 0,  /* no byte is left: the file ended behind a whole record */
+    UGB_STOP = 1, /* a wrong or cut head, or a cut section: nothing behind it can be read */
+    UGB_FOUND = 2 /* a record */
+};
+
+typedef struct ugb_record {
+    uint32_t next;          /* one of the three; all below is zero where it is not UGB_FOUND */
+    size_t size;            /* the record's bytes, head and section: the next one begins behind them */
+    bool security_first;    /* whether a SecurityHeader stands first in the section, as ugb_read asks */
+    ugb_part section;       /* where the section lies in s; bytes behind its own length may follow it there */
+    ugb_refusal refusal;    /* as ugb_read refuses the section, the place counted from the section's first byte */
+    uint16_t message_class; /* MessageClass; this and all below is zero where the section is refused */
+    uint32_t label_length;  /* LabelLength, in 16-bit units */
+    size_t extension_size;  /* ExtensionSize, in bytes */
+    size_t message_size;    /* MessageSize, in bytes */
+    size_t section_length;  /* the section's own length in bytes */
+} ugb_record;
+
+/* The record at the first of s_length bytes, which are what is left of the file. To go through a file in memory:
+ *
+ *     ugb_record record;
+ *     for (; (record = ugb_next_record(s, left)).next == UGB_FOUND; s += record.size, left -= record.size)
+ *         ..
+ *
+ * Of a file in portions, have 8 + 32,768 bytes or all that is left before each call: else a record that is cut by the
+ * portion counts as UGB_STOP. */
+ugb_record ugb_next_record(const uint8_t *s, size_t s_length);
 
 #ifdef __cplusplus
 }

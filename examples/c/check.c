@@ -34,6 +34,7 @@ static const ugb_section_values values = {
     .privacy_level = 3,
     .hash_algorithm = 0x800C,
     .encryption_algorithm = 0x6610,
+    .correlation_id = {1, 2, 3, 4, 5, 6, 7, 8, 9, 10, 11, 12, 13, 14, 15, 16, 17, 18, 19, 20},
 };
 
 /* An identity with no sub-authority, and a provider of type 0x0B0C0D0E named "p". */
@@ -51,9 +52,17 @@ enum { PROPERTIES_AT = 52, SECTION_LENGTH = 136 };
 
 static ugb_output write_whole(ugb_section_values v, size_t certificate_length, size_t room)
 {
-    return ugb_write_section(v, correlation_id, identity, sizeof identity, key, sizeof key, signature, sizeof signature,
-                             input, certificate_length, provider, sizeof provider, label, sizeof label, extension,
-                             sizeof extension, body, sizeof body, out, room);
+    const ugb_section_parts parts = {
+        .sender_id = BYTES(identity),
+        .encryption_key = BYTES(key),
+        .signature = BYTES(signature),
+        .sender_cert = {input, certificate_length},
+        .provider_info = BYTES(provider),
+        .label = BYTES(label),
+        .extension = BYTES(extension),
+        .body = BYTES(body),
+    };
+    return ugb_write_section(&v, &parts, out, room);
 }
 
 static void check_security(ugb_security_header security)
@@ -97,6 +106,16 @@ static void check_summary(ugb_summary summary)
     SAME(summary.decryption_fails, false);
 }
 
+/* What was read is written again. */
+static void check_again(const ugb_section *read, const uint8_t *section, size_t length)
+{
+    const ugb_section_values v = ugb_values_of(read, section);
+    const ugb_section_parts parts = ugb_parts_of(read, section);
+    pattern();
+    written(ugb_write_section(&v, &parts, out, sizeof out), length);
+    SAME(memcmp(out, section, length), 0);
+}
+
 static void check_whole(void)
 {
     static uint8_t section[SECTION_LENGTH];
@@ -115,6 +134,7 @@ static void check_whole(void)
     SAME(memcmp(section + PROPERTIES_AT + 4, correlation_id, 20), 0);
     SAME(memcmp(section + 36, certificate, sizeof certificate), 0);
     SAME(reading.section.application_tag, 0x05060708);
+    check_again(&reading.section, section, sizeof section);
 
     ugb_label shown = ugb_label_shown(section, sizeof section, true);
     SAME(shown.stand_in, false);
@@ -170,21 +190,17 @@ static void check_writer_refuses(void)
 
 /* ---- 01's examples */
 
-/* Of a refused reading nothing else is set. */
 static void reading_refused(size_t length, bool security_first, uint32_t number, size_t place)
 {
     ugb_reading found = ugb_read(input, length, security_first);
-    ugb_summary m = found.section.summary;
+    ugb_summarized summarized = ugb_summarize(input, length, security_first);
+    ugb_label label = ugb_label_shown(input, length, security_first);
     same_refusal(found.refusal, number, place);
-    same_refusal(ugb_summarize(input, length, security_first).refusal, number, place);
-    SAME(m.security_first | m.authentication_fails | m.decryption_fails, 0);
-    SAME(m.security.fields.flags | m.security.fields.signature_size | m.security.parts.length, 0);
-    SAME(m.properties.message_class | m.properties.label_length | m.properties.message_size, 0);
-    same_part(m.parts.label, 0, 0);
-    same_part(m.parts.body, 0, 0);
-    SAME(m.parts.section_length | found.section.application_tag, 0);
-    same_part(found.section.correlation_id, 0, 0);
-    SAME(ugb_label_shown(input, length, security_first).stand_in, true);
+    SECTION(ZERO, found.section)
+    same_refusal(summarized.refusal, number, place);
+    SUMMARY(ZERO, summarized.summary)
+    SAME(label.stand_in, true);
+    PART(ZERO, label.part)
     SAME(ugb_same_summary(input, length, input, length, security_first), false);
 }
 
@@ -277,8 +293,8 @@ static void image_is(size_t length, ugb_queue_format format, ugb_part fixed, ugb
     same_part(found.fixed, fixed.start, fixed.length);
     same_part(found.text, text.start, text.length);
     pattern();
-    written(ugb_write_image(format, input + fixed.start, fixed.length, input + text.start, text.length, out, sizeof out),
-            length);
+    ugb_bytes fixed_bytes = ugb_bytes_of(found.fixed, input), text_bytes = ugb_bytes_of(found.text, input);
+    written(ugb_write_image(found.format, UGB_BYTES(fixed_bytes), UGB_BYTES(text_bytes), out, sizeof out), length);
     SAME(memcmp(out, input, length), 0);
 }
 
@@ -289,9 +305,7 @@ static void image_refused(uint8_t kind, uint8_t byte, size_t length, uint32_t nu
     input[1] = byte;
     ugb_image_read found = ugb_read_image(input, length);
     same_refusal(found.refusal, number, 0);
-    SAME(found.format.kind | found.format.suffix_and_flags, 0);
-    same_part(found.fixed, 0, 0);
-    same_part(found.text, 0, 0);
+    IMAGE(ZERO, found)
 }
 
 static void check_images(void)
@@ -330,8 +344,10 @@ static void check_images(void)
 static void check_null(void)
 {
     const ugb_section_values zero = {0};
+    const ugb_section_parts none = {0};
+    ugb_reading reading = ugb_read(NULL, 0, true);
+    same_refusal(reading.refusal, UGB_INPUT_SHORT, 0);
     same_refusal(ugb_summarize(NULL, 0, false).refusal, UGB_INPUT_SHORT, 0);
-    same_refusal(ugb_read(NULL, 0, true).refusal, UGB_INPUT_SHORT, 0);
     same_refusal(ugb_read_image(NULL, 0).refusal, UGB_INPUT_SHORT, 0);
     SAME(ugb_label_shown(NULL, 0, false).stand_in, true);
     SAME(ugb_same_summary(NULL, 0, NULL, 0, false), false);
@@ -339,12 +355,25 @@ static void check_null(void)
     refused(ugb_support_copy(NULL, 0, false, out, sizeof out), UGB_INPUT_SHORT, 0);
     refused(ugb_support_copy(NULL, 0, false, NULL, 0), UGB_INPUT_SHORT, 0);
     refused(ugb_write_image((ugb_queue_format){0, 0}, NULL, 0, NULL, 0, NULL, 0), UGB_OUTPUT_SHORT, 0);
-    refused(ugb_write_section(zero, correlation_id, NULL, 0, NULL, 0, NULL, 0, NULL, 0, NULL, 0, NULL, 0, NULL, 0, NULL,
-                              0, NULL, 0),
-            UGB_OUTPUT_SHORT, 0);
-    written(ugb_write_section(zero, correlation_id, NULL, 0, NULL, 0, NULL, 0, NULL, 0, NULL, 0, NULL, 0, NULL, 0, NULL,
-                              0, out, sizeof out),
-            56);
+    refused(ugb_write_section(&zero, &none, NULL, 0), UGB_OUTPUT_SHORT, 0);
+    written(ugb_write_section(&zero, &none, out, sizeof out), 56);
+
+    const ugb_section_values values_read = ugb_values_of(&reading.section, NULL);
+    const ugb_section_parts parts_read = ugb_parts_of(&reading.section, NULL);
+    pattern();
+    written(ugb_write_section(&values_read, &parts_read, out, sizeof out), 56);
+}
+
+/* ---- what the header says of itself */
+
+static void check_header(void)
+{
+    char version[32];
+    snprintf(version, sizeof version, "%d.%d.%d", UGB_VERSION_MAJOR, UGB_VERSION_MINOR, UGB_VERSION_PATCH);
+    SAME(strcmp(version, UGB_VERSION), 0);
+    SAME(strcmp(ugb_refusal_text(UGB_ACCEPTED), "accepted"), 0);
+    SAME(strcmp(ugb_refusal_text(UGB_LABEL_LENGTH), "LabelLength above 250, or a label of an odd number of bytes"), 0);
+    SAME(strcmp(ugb_refusal_text(14), "unknown refusal"), 0);
 }
 
 int main(void)
@@ -356,6 +385,7 @@ int main(void)
     check_security_examples();
     check_images();
     check_null();
+    check_header();
     report();
     return 0;
 }

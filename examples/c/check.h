@@ -3,6 +3,7 @@
 #include <stdlib.h>
 #include <string.h>
 
+#include "members.h"
 #include "ugbariteyo.h"
 
 #define SAME(found, wanted) same((size_t)(found), (size_t)(wanted), #found, __LINE__)
@@ -18,6 +19,7 @@ static inline void same(size_t found, size_t wanted, const char *what, int line)
     exit(1);
 }
 
+#define BYTES(array) {array, sizeof array}
 static const uint8_t correlation_id[20] = {1, 2, 3, 4, 5, 6, 7, 8, 9, 10, 11, 12, 13, 14, 15, 16, 17, 18, 19, 20};
 static uint8_t input[UGB_LIMIT];
 static uint8_t out[1024];
@@ -33,6 +35,9 @@ static inline void untouched_from(size_t at)
     for (size_t i = at; i < sizeof out; i++)
         SAME(out[i], 0xA5);
 }
+
+/* Of a refusal nothing else is set. */
+#define ZERO(member) SAME(member, 0);
 
 static inline void same_refusal(ugb_refusal found, uint32_t number, size_t place)
 {

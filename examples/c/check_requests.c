@@ -26,17 +26,31 @@ static const ugb_request whole = {
     .split_number = {true, 14},
     .provider_name_length = 11,
     .correlation_given = true,
+    .correlation_id = {1, 2, 3, 4, 5, 6, 7, 8, 9, 10, 11, 12, 13, 14, 15, 16, 17, 18, 19, 20},
     .body_given = true,
     .allocation_body_size = 77,
     .transaction = true,
     .encryption = true,
 };
 
+static ugb_request_parts parts(size_t name_units, size_t certificate, size_t body_length)
+{
+    return (ugb_request_parts){
+        .title = {title, 4},
+        .sender_id = BYTES(identity),
+        .encryption_key = BYTES(key),
+        .signature = BYTES(signature),
+        .sender_cert = {input, certificate},
+        .provider_name = {name, name_units},
+        .extension = {input, 9},
+        .body = {body_length == sizeof body ? body : input, body_length},
+    };
+}
+
 static ugb_defaulted_answer defaulted(ugb_request request, size_t name_units, size_t certificate, size_t body_length)
 {
-    return ugb_defaulted(request, correlation_id, title, 4, identity, sizeof identity, key, sizeof key, signature,
-                         sizeof signature, input, certificate, name, name_units, input, 9,
-                         body_length == sizeof body ? body : input, body_length);
+    const ugb_request_parts given = parts(name_units, certificate, body_length);
+    return ugb_defaulted(&request, &given);
 }
 
 static void check_handling(ugb_handling handling)
@@ -84,8 +98,8 @@ static void check_absent(void)
 {
     static const uint8_t zeros[20];
     ugb_request request = {0};
-    ugb_defaulted_answer found = ugb_defaulted(request, correlation_id, NULL, 0, NULL, 0, NULL, 0, NULL, 0, NULL, 0, NULL,
-                                               0, NULL, 0, NULL, 0);
+    ugb_request_parts given = {0};
+    ugb_defaulted_answer found = ugb_defaulted(&request, &given);
     ugb_properties p = found.properties;
     same_refusal(found.refusal, UGB_ACCEPTED, 0);
     SAME(p.handling.priority, 3);
@@ -98,25 +112,23 @@ static void check_absent(void)
     request.direct_queue = true;
     request.default_provider = true;
     request.allocation_body_size = 77;
-    p = ugb_defaulted(request, correlation_id, NULL, 0, NULL, 0, NULL, 0, NULL, 0, NULL, 0, NULL, 0, NULL, 0, body,
-                      sizeof body)
-            .properties;
+    memset(request.correlation_id, 1, 20);
+    given.body = (ugb_bytes)BYTES(body);
+    found = ugb_defaulted(&request, &given);
+    p = found.properties;
+    SAME(memcmp(found.correlation_id, zeros, 20), 0);
     SAME(p.handling.direct_queue, true);
     SAME(p.handling.transaction, false);
     SAME(p.sender.default_provider, true);
     SAME(p.message_size | p.allocation_body_size, 0);
 }
 
-/* Of a refusal nothing else is set. */
 static void request_refused(ugb_defaulted_answer found, uint32_t number)
 {
-    ugb_properties p = found.properties;
     same_refusal(found.refusal, number, 0);
-    SAME(p.handling.known | p.sender.known | p.provider_type.given | p.handling.split_number.given, 0);
-    SAME(p.handling.priority | p.message_class | p.application_tag | p.title, 0);
-    SAME(p.message_size | p.allocation_body_size, 0);
-    same_part(p.signature, 0, 0);
-    SAME(found.correlation_id[19], 0);
+    PROPERTIES(ZERO, found.properties)
+    for (size_t i = 0; i < 20; i++)
+        SAME(found.correlation_id[i], 0);
 }
 
 static void check_refused(void)
@@ -146,11 +158,26 @@ static void check_refused(void)
     request_refused(defaulted(q, 1, 6, UGB_LIMIT), UGB_ABOVE_THE_LIMIT);
 }
 
-static ugb_output sent(ugb_request request, size_t room)
+static ugb_sent sent(ugb_request request, size_t room)
 {
+    const ugb_request_parts given = parts(1, 6, sizeof body);
     pattern();
-    return ugb_send(request, correlation_id, title, 4, identity, sizeof identity, key, sizeof key, signature,
-                    sizeof signature, input, 6, name, 1, input, 9, body, sizeof body, out, room);
+    return ugb_send(&request, &given, out, room);
+}
+
+static void was_sent(ugb_sent found, size_t length, bool security_first)
+{
+    same_refusal(found.refusal, UGB_ACCEPTED, 0);
+    SAME(found.length, length);
+    SAME(found.security_first, security_first);
+    untouched_from(length);
+}
+
+static void not_sent(ugb_sent found, uint32_t number)
+{
+    same_refusal(found.refusal, number, 0);
+    SENT(ZERO, found)
+    untouched_from(0);
 }
 
 /* 16 and the parts 8, 4, 4, 8, 8; 56, a label of 3 units, 9 and 10, padded. */
@@ -158,7 +185,7 @@ static void check_sent(void)
 {
     ugb_request q = whole;
     ugb_reading found;
-    written(sent(whole, sizeof out), 132);
+    was_sent(sent(whole, sizeof out), 132, true);
     found = ugb_read(out, 132, true);
     same_refusal(found.refusal, UGB_ACCEPTED, 0);
     SAME(found.section.summary.security.fields.flags, 0x00A1);
@@ -173,9 +200,9 @@ static void check_sent(void)
     SAME(memcmp(out + found.section.correlation_id.start, correlation_id, 20), 0);
     SAME(memcmp(out + found.section.summary.parts.body.start, body, sizeof body), 0);
 
-    refused(sent(whole, 131), UGB_OUTPUT_SHORT, 0);
+    not_sent(sent(whole, 131), UGB_OUTPUT_SHORT);
     q.priority.number = 8;
-    refused(sent(q, sizeof out), UGB_VALUE_OUT_OF_RANGE, 0);
+    not_sent(sent(q, sizeof out), UGB_VALUE_OUT_OF_RANGE);
 }
 
 /* 01's example 11: the title's units, and LabelLength. */
@@ -183,18 +210,48 @@ static void check_titles(void)
 {
     static const size_t examples[4][2] = {{249, 250}, {250, 250}, {248, 249}, {0, 0}};
     static uint16_t units[250];
-    ugb_request request = {0};
+    const ugb_request request = {0};
     for (size_t i = 0; i < 250; i++)
         units[i] = 'x';
     for (size_t i = 0; i < 4; i++) {
-        ugb_output answer;
+        const ugb_request_parts given = {.title = {units, examples[i][0]}};
         pattern();
-        answer = ugb_send(request, correlation_id, units, examples[i][0], NULL, 0, NULL, 0, NULL, 0, NULL, 0, NULL, 0,
-                          NULL, 0, NULL, 0, out, sizeof out);
-        same_refusal(answer.refusal, UGB_ACCEPTED, 0);
-        untouched_from(answer.length);
+        ugb_sent answer = ugb_send(&request, &given, out, sizeof out);
+        was_sent(answer, answer.length, false);
         SAME(ugb_read(out, answer.length, false).section.summary.properties.label_length, examples[i][1]);
     }
+}
+
+/* A SecurityHeader stands first where one of four parts is not empty, and a read of what was sent asks for it. */
+static void check_security_first(void)
+{
+    const ugb_request request = {.hash_algorithm = {true, 0}, .provider_type = {true, 1}, .default_provider = true};
+    const ugb_request identified = {.sender_kind = {true, 1}};
+    const ugb_request_parts given[5] = {
+        {.extension = BYTES(body)},
+        {.sender_id = BYTES(identity)},
+        {.encryption_key = BYTES(key)},
+        {.signature = BYTES(signature)},
+        {.sender_cert = BYTES(body)},
+    };
+    for (size_t i = 0; i < 5; i++) {
+        pattern();
+        ugb_sent answer = ugb_send(i == 1 ? &identified : &request, &given[i], out, sizeof out);
+        was_sent(answer, answer.length, i != 0);
+        ugb_reading found = ugb_read(out, answer.length, answer.security_first);
+        same_refusal(found.refusal, UGB_ACCEPTED, 0);
+        SAME(found.section.summary.parts.section_length, answer.length);
+    }
+}
+
+/* No part, behind no pointer. */
+static void check_null(void)
+{
+    const ugb_request request = {0};
+    const ugb_request_parts none = {0};
+    pattern();
+    not_sent(ugb_send(&request, &none, NULL, 0), UGB_OUTPUT_SHORT);
+    was_sent(ugb_send(&request, &none, out, sizeof out), 56, false);
 }
 
 int main(void)
@@ -204,6 +261,8 @@ int main(void)
     check_refused();
     check_sent();
     check_titles();
+    check_security_first();
+    check_null();
     report();
     return 0;
 }

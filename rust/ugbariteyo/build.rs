@@ -1,11 +1,11 @@
 //! Links the proved library, `libugbariteyo.a`: from the directory in `UGBARITEYO_LIB_DIR`, else from the
-//! repository's `target/staticlib`, where `rt staticlib ugbariteyo` writes it. That command is run where the
-//! archive is not there yet.
+//! repository's `target/lib`, where the script `archive` writes it. That is run where the archive is not there yet; proving takes minutes, so the terminal says what is being done.
 
 use std::env;
-use std::io::ErrorKind;
+use std::fs::File;
+use std::io::{self, BufRead, BufReader, Write};
 use std::path::{Path, PathBuf};
-use std::process::{exit, Command};
+use std::process::{exit, Command, ExitStatus};
 
 const ARCHIVE: &str = "libugbariteyo.a";
 const LIB_DIR: &str = "UGBARITEYO_LIB_DIR";
@@ -41,7 +41,7 @@ fn library_dir() -> Result<PathBuf, String> {
     }
     let here = env::var_os("CARGO_MANIFEST_DIR").expect("cargo sets CARGO_MANIFEST_DIR");
     let root = Path::new(&here).join("../..");
-    let dir = root.join("target/staticlib");
+    let dir = root.join("target/lib");
     if !dir.join(ARCHIVE).is_file() {
         build_library(&root)?;
     }
@@ -50,22 +50,40 @@ fn library_dir() -> Result<PathBuf, String> {
 
 /// Proves the library and writes the archive.
 fn build_library(root: &Path) -> Result<(), String> {
-    let advice =
-        format!("run `rt staticlib ugbariteyo` in the repository, or set {LIB_DIR} to where {ARCHIVE} lies");
     if !root.join("crates/ugbariteyo").is_dir() {
         return Err(format!(
             "this crate does not lie in its repository: set {LIB_DIR} to where {ARCHIVE} lies"
         ));
     }
-    match Command::new("rt").args(["staticlib", "ugbariteyo"]).current_dir(root).output() {
-        Ok(run) if run.status.success() => Ok(()),
-        Ok(run) => Err(format!(
-            "`rt staticlib ugbariteyo` failed ({}):\n{}{}",
-            run.status,
-            String::from_utf8_lossy(&run.stdout),
-            String::from_utf8_lossy(&run.stderr)
-        )),
-        Err(e) if e.kind() == ErrorKind::NotFound => Err(format!("{ARCHIVE} is not built yet: {advice}")),
-        Err(e) => Err(format!("`rt` could not be started ({e}): {advice}")),
+    let advice =
+        format!("run `./archive` in the repository, or set {LIB_DIR} to where {ARCHIVE} lies");
+    say("proving and compiling the library, which is done once and takes minutes");
+    match run_archive(root) {
+        Ok(status) if status.success() => Ok(()),
+        Ok(status) => Err(format!("`archive` failed ({status}): {advice}")),
+        Err(e) => Err(format!("`archive` did not run ({e}): {advice}")),
+    }
+}
+
+/// Runs `archive` and says each line that it prints.
+fn run_archive(root: &Path) -> io::Result<ExitStatus> {
+    let (output, its_end) = io::pipe()?;
+    let mut archive = Command::new(root.join("archive"))
+        .stdout(its_end.try_clone()?)
+        .stderr(its_end)
+        .spawn()?;
+    for line in BufReader::new(output).lines() {
+        say(&line?);
+    }
+    archive.wait()
+}
+
+/// Prints a line on the terminal, where there is one: cargo shows what a build script prints only where it failed, or
+/// with -vv.
+fn say(line: &str) {
+    eprintln!("ugbariteyo: {line}");
+    if let Ok(mut terminal) = File::options().write(true).open("/dev/tty") {
+        // over cargo's progress bar, which it draws again; a terminal that is gone is no reason to fail
+        let _ = writeln!(terminal, "\r\x1b[Kugbariteyo: {line}");
     }
 }

@@ -42,9 +42,3 @@ pub(crate) fn tell_counts(copied: u64, left_out: u64) {
     tell_number(left_out);
     tell(b"\n");
 }
-
-pub(crate) fn tell_too_long(longest: u64) {
-    tell(b"the input is longer than ");
-    tell_number(longest);
-    tell(b" bytes, and this program reads no more: nothing was copied\n");
-}

@@ -1,4 +1,6 @@
+pub mod Case
 pub mod Decided
 pub mod Fields
+pub mod Label
 pub mod Passed
 pub mod Same

@@ -1,2 +1,4 @@
+pub mod Case
 pub mod Fields
+pub mod Label
 pub mod Same

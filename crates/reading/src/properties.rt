@@ -10,13 +10,12 @@ use rules::properties::PropertiesFields;
 use rules::properties::PropertiesParts;
 use rules::properties::label_contents;
 use rules::properties::properties_steps;
-use rules::properties::section_end;
 use rules::refusal;
 use rules::section::LIMIT;
 ghost use mathlib.Core.Path.{_≡_};
 ghost use mathlib.Core.List.{[]};
-ghost use Prim.Native.Nat.{_≤_};
-ghost use lib.ListN.{length};
+ghost use Prim.Native.Nat.{_+_, _≤_};
+ghost use lib.ListN.{drop, length};
 ghost use Rattle.rules.specs.Properties.{propertiesFields, propertiesParts};
 ghost use Rattle.rules.specs.Reading.{propertiesNumber};
 ghost use Rattle.rules.specs.Refusal.{limit};
@@ -58,6 +57,16 @@ fn fields_of(h: &[u8]) -> PropertiesFields
         encryption_algorithm: u32_in(h, Bytes(48)),
         extension_size: Bytes(u32_in(h, Bytes(52)) as usize),
     }
+}
+
+// The same, of the header at `at`.
+pub(crate) fn fields_at(s: &[u8], at: Bytes) -> PropertiesFields
+    requires { ⌜ at .0 + 56 ≤ length (now s) ⌝ }
+    ensures { λ r. ⌜ r ≡ propertiesFields (drop (at .0) (now (s .entry))) ⌝ }
+    ensures { λ r. ⌜ PropertiesSizes r ⌝ }
+{
+    let start = at.0;
+    fields_of(&s[start..])
 }
 
 // The fixed fields of the header at `at`; all zero where the 56 bytes are not all there.
@@ -110,12 +119,12 @@ pub(crate) fn properties_number(s: &[u8], at: Bytes) -> u32
     if s.len() < at.0 + 56 {
         return refusal::INPUT_SHORT;
     }
-    let fields = properties_fields(s, at);
+    let fields = fields_at(s, at);
     let number = properties_steps(fields);
     if number != refusal::PASSED {
         return number;
     }
-    let end = section_end(fields, at).0;
+    let end = properties_parts(fields, at).section_length.0;
     if LIMIT < end {
         return refusal::ABOVE_THE_LIMIT;
     }

@@ -1,6 +1,6 @@
 // Whether two inputs have the same summary: what a caller needs to use demand 3.
+use crate::properties::fields_at;
 use crate::properties::label_at;
-use crate::properties::properties_fields;
 use crate::section::header_at;
 use crate::section::judge;
 use crate::view::part_of;
@@ -142,8 +142,8 @@ fn same_accepted(a: &[u8], b: &[u8], security_first: bool) -> bool
     if !same_header(g, h) {
         return false;
     }
-    let p = properties_fields(a, g.parts.length);
-    let q = properties_fields(b, h.parts.length);
+    let p = fields_at(a, g.parts.length);
+    let q = fields_at(b, h.parts.length);
     if !same_properties(p, q) {
         return false;
     }

@@ -1,8 +1,9 @@
 // Reading a section: every step first, then the summary and the full reading of what passed them.
 use crate::field::u32_in;
-use crate::properties::properties_fields;
+use crate::properties::fields_at;
 use crate::properties::properties_number;
 use crate::properties::properties_parts;
+use crate::security::header_length;
 use crate::security::no_security;
 use crate::security::security_fields;
 use crate::security::security_header;
@@ -25,12 +26,13 @@ ghost use Prim.Native.Nat.{_+_, _≤_};
 ghost use lib.ListN.{drop, length};
 ghost use Rattle.octets.specs.Number.{le};
 ghost use Rattle.rules.specs.Properties.{propertiesParts};
-ghost use Rattle.rules.specs.Reading.{headerAt, judge, read, securityNumber, summarize, summaryAt};
+ghost use Rattle.rules.specs.Reading.{headerAt, judge, read, securityNumber, startAt, summarize, summaryAt};
 ghost use Rattle.rules.specs.Refusal.{limit};
 ghost use Rattle.rules.specs.Summary.{sectionOf, summaryOf};
+ghost use Rattle.reading.specs.Case.{readingCase};
 ghost use Rattle.reading.specs.Fields.{PropertiesSizes, startRead};
 
-// Where the MessagePropertiesHeader of an accepted section begins.
+// Where the MessagePropertiesHeader of an accepted section begins; at most one byte above the limit, on any input.
 pub fn properties_start(s: &[u8], security_first: bool) -> Bytes
     ensures { λ r. ⌜ r .0 ≡ startRead «security_first» (now (s .entry)) ⌝ }
 {
@@ -50,8 +52,20 @@ fn header_number(s: &[u8], security_first: bool) -> u32
     refusal::PASSED
 }
 
-// The refusal of the section at the input's first byte; its number is 0 where no step fails. The caller says whether a
-// SecurityHeader stands first. (A small answer: what was read is made from the bytes once they have passed.)
+// Where the MessagePropertiesHeader begins, once S1 to S11 have passed.
+fn start_at(s: &[u8], security_first: bool) -> Bytes
+    requires { ⌜ securityNumber «security_first» (now s) ≡ 0 ⌝ }
+    ensures { λ r. ⌜ r .0 ≡ startAt «security_first» (now (s .entry)) ⌝ }
+{
+    if security_first {
+        return header_length(s);
+    }
+    Bytes(0)
+}
+
+// The refusal of the section at the input's first byte; its number is 0 where no step fails, and its place is then
+// where the MessagePropertiesHeader begins. The caller says whether a SecurityHeader stands first. (A small answer: what
+// was read is made from the bytes once they have passed.)
 pub fn judge(s: &[u8], security_first: bool) -> Refusal
     ensures { λ r. ⌜ r ≡ judge «security_first» (now (s .entry)) ⌝ }
 {
@@ -62,7 +76,7 @@ pub fn judge(s: &[u8], security_first: bool) -> Refusal
             place: Bytes(0),
         };
     }
-    let at = properties_start(s, security_first);
+    let at = start_at(s, security_first);
     Refusal {
         number: properties_number(s, at),
         place: at,
@@ -99,27 +113,6 @@ fn summary_of(
     }
 }
 
-// The summary of a section that passed every step.
-fn summary_at(s: &[u8], security_first: bool) -> Summary
-    requires { ⌜ judge «security_first» (now s) .number ≡ 0 ⌝ }
-    ensures { λ r. ⌜ r ≡ summaryAt «security_first» (now (s .entry)) ⌝ }
-{
-    let security = header_at(s, security_first);
-    let properties = properties_fields(s, security.parts.length);
-    summary_of(security_first, security, properties)
-}
-
-// The summary, or the refusal.
-pub fn summarize(s: &[u8], security_first: bool) -> Summarized
-    ensures { λ r. ⌜ r ≡ summarize «security_first» (now (s .entry)) ⌝ }
-{
-    let refused = judge(s, security_first);
-    if refused.number != refusal::PASSED {
-        return Summarized::Refused(refused);
-    }
-    Summarized::Accepted(summary_at(s, security_first))
-}
-
 // ApplicationTag of the header at `at`.
 fn application_tag(s: &[u8], at: Bytes) -> u32
     requires { ⌜ at .0 + 56 ≤ length (now s) ⌝ }
@@ -130,19 +123,63 @@ fn application_tag(s: &[u8], at: Bytes) -> u32
     u32_in(h, Bytes(28))
 }
 
+// The full reading of a section that passed every step, its SecurityHeader as it was read.
+fn section_of(s: &[u8], security_first: bool, security: SecurityHeader) -> Section
+    requires { ⌜ judge «security_first» (now s) .number ≡ 0 ⌝ }
+    requires { ⌜ security ≡ headerAt «security_first» (now s) ⌝ }
+    ensures { λ r. ⌜ r ≡ sectionOf (summaryAt «security_first» (now (s .entry))) (now (s .entry)) ⌝ }
+{
+    let at = security.parts.length;
+    let properties = fields_at(s, at);
+    Section {
+        summary: summary_of(security_first, security, properties),
+        correlation_id: part(Bytes(at.0 + 4), Bytes(20)),
+        application_tag: application_tag(s, at),
+    }
+}
+
+// The summary, or the refusal.
+pub fn summarize(s: &[u8], security_first: bool) -> Summarized
+    ensures { λ r. ⌜ r ≡ summarize «security_first» (now (s .entry)) ⌝ }
+{
+    let refused = judge(s, security_first);
+    if refused.number != refusal::PASSED {
+        return Summarized::Refused(refused);
+    }
+    let section = section_of(s, security_first, header_at(s, security_first));
+    let summary = section.summary;
+    Summarized::Accepted(summary)
+}
+
+// The full reading. A section with a SecurityHeader and one without are cases by themselves, so that a caller that fills
+// an answer has each filled in place: where the two meet, every number of the section is held in between. (That is so
+// for one caller in an archive: a second would have the function called, and its answer moved.)
+pub enum ReadingCase {
+    WithSecurity(Section),
+    WithoutSecurity(Section),
+    Refused(Refusal),
+}
+
+pub fn reading_case(s: &[u8], security_first: bool) -> ReadingCase
+    ensures { λ r. ⌜ r ≡ readingCase «security_first» (read «security_first» (now (s .entry))) ⌝ }
+{
+    let refused = judge(s, security_first);
+    if refused.number != refusal::PASSED {
+        return ReadingCase::Refused(refused);
+    }
+    if security_first {
+        return ReadingCase::WithSecurity(section_of(s, true, security_header(s)));
+    }
+    ReadingCase::WithoutSecurity(section_of(s, false, no_security()))
+}
+
 // The full reading: the summary, CorrelationID and ApplicationTag. Each part's bytes are had by `view::part_of`.
 pub fn read(s: &[u8], security_first: bool) -> Reading
     ensures { λ r. ⌜ r ≡ read «security_first» (now (s .entry)) ⌝ }
 {
-    let refused = judge(s, security_first);
-    if refused.number != refusal::PASSED {
-        return Reading::Refused(refused);
+    match reading_case(s, security_first) {
+        ReadingCase::WithSecurity(section) => Reading::Accepted(section),
+        ReadingCase::WithoutSecurity(section) => Reading::Accepted(section),
+        ReadingCase::Refused(refused) => Reading::Refused(refused),
     }
-    let summary = summary_at(s, security_first);
-    let at = summary.security.parts.length;
-    Reading::Accepted(Section {
-        summary,
-        correlation_id: part(Bytes(at.0 + 4), Bytes(20)),
-        application_tag: application_tag(s, at),
-    })
 }

@@ -13,7 +13,6 @@ use rules::security::SecurityFields;
 use rules::security::SecurityHeader;
 use rules::security::SecurityParts;
 use rules::security::security_contents;
-use rules::security::security_length;
 use rules::security::security_steps;
 ghost use mathlib.Core.Path.{_≡_};
 ghost use mathlib.Core.Bool.{true, cond};
@@ -22,8 +21,8 @@ ghost use lib.ListN.{length};
 ghost use lib.Dec.{eqb};
 ghost use Rattle.octets.specs.Number.{le};
 ghost use Rattle.octets.specs.Padding.{padded};
-ghost use Rattle.rules.specs.Reading.{headerAt, judge, securityNumber};
-ghost use Rattle.rules.specs.Security.{securityContents, securityParts};
+ghost use Rattle.rules.specs.Reading.{headerAt, judge, securityNumber, startAt};
+ghost use Rattle.rules.specs.Security.{securityContents, securityFields, securityLength, securityParts};
 ghost use Rattle.rules.specs.Summary.{noSecurity, partOf};
 ghost use Rattle.reading.specs.Fields.{SecuritySizes, securityRead};
 
@@ -61,14 +60,12 @@ pub fn no_security() -> SecurityHeader
     }
 }
 
-// The fixed fields; all zero where the 16 bytes are not all there.
-pub fn security_fields(s: &[u8]) -> SecurityFields
-    ensures { λ r. ⌜ r ≡ securityRead (now (s .entry)) ⌝ }
+// The fixed fields of a header that is there.
+fn fields_of(s: &[u8]) -> SecurityFields
+    requires { ⌜ 16 ≤ length (now s) ⌝ }
+    ensures { λ r. ⌜ r ≡ securityFields (now (s .entry)) ⌝ }
     ensures { λ r. ⌜ SecuritySizes r ⌝ }
 {
-    if s.len() < 16 {
-        return no_fields();
-    }
     SecurityFields {
         flags: (u16_in(s, Bytes(0)) % 4096) as u32,
         sender_id_size: Bytes(u16_in(s, Bytes(2)) as usize),
@@ -77,6 +74,17 @@ pub fn security_fields(s: &[u8]) -> SecurityFields
         sender_cert_size: Bytes(u32_in(s, Bytes(8)) as usize),
         provider_info_size: Bytes(u32_in(s, Bytes(12)) as usize),
     }
+}
+
+// The fixed fields; all zero where the 16 bytes are not all there.
+pub fn security_fields(s: &[u8]) -> SecurityFields
+    ensures { λ r. ⌜ r ≡ securityRead (now (s .entry)) ⌝ }
+    ensures { λ r. ⌜ SecuritySizes r ⌝ }
+{
+    if s.len() < 16 {
+        return no_fields();
+    }
+    fields_of(s)
 }
 
 // Where a part of `size` bytes from `start` ends, with its padding.
@@ -108,6 +116,13 @@ fn security_parts(f: SecurityFields) -> SecurityParts
     }
 }
 
+fn length_of(f: SecurityFields) -> Bytes
+    requires { ⌜ SecuritySizes f ⌝ }
+    ensures { λ r. ⌜ r .0 ≡ securityLength f ⌝ }
+{
+    security_parts(f).length
+}
+
 // S10 and S11
 fn contents_number(s: &[u8], f: SecurityFields) -> u32
     requires { ⌜ SecuritySizes f ⌝ }
@@ -126,12 +141,12 @@ pub(crate) fn security_number(s: &[u8]) -> u32
     if s.len() < 16 {
         return refusal::INPUT_SHORT;
     }
-    let fields = security_fields(s);
+    let fields = fields_of(s);
     let number = security_steps(fields);
     if number != refusal::PASSED {
         return number;
     }
-    let length = security_length(fields).0;
+    let length = length_of(fields).0;
     if LIMIT < length {
         return refusal::ABOVE_THE_LIMIT;
     }
@@ -162,12 +177,20 @@ fn provider_type(s: &[u8], info: Part) -> u32
     u32_in(s, info.start)
 }
 
+// The length of a header that passed its steps.
+pub(crate) fn header_length(s: &[u8]) -> Bytes
+    requires { ⌜ securityNumber true (now s) ≡ 0 ⌝ }
+    ensures { λ r. ⌜ r .0 ≡ startAt true (now (s .entry)) ⌝ }
+{
+    length_of(fields_of(s))
+}
+
 // The header of a section that passed every step: identity and provider info are then in the input.
 pub(crate) fn security_header(s: &[u8]) -> SecurityHeader
     requires { ⌜ judge true (now s) .number ≡ 0 ⌝ }
     ensures { λ r. ⌜ r ≡ headerAt true (now (s .entry)) ⌝ }
 {
-    let fields = security_fields(s);
+    let fields = fields_of(s);
     let parts = security_parts(fields);
     let info = parts.provider_info;
     SecurityHeader {

@@ -1,9 +1,8 @@
-// Send requests (002, rpc_ACSendMessageEx): checked in 01's order, and given their defaults.
-pub mod defaulted;
+// Send requests (002, rpc_ACSendMessageEx): the type, its values with their defaults, what of its parts is kept, and how
+// long its section is.
 pub mod properties;
 pub mod request;
 pub mod section;
-mod signature;
-mod steps;
-mod text;
+pub mod signature;
+pub mod text;
 pub mod values;

@@ -30,7 +30,8 @@ impl Number {
     }
 }
 
-// Whether a CorrelationID is given. Its 20 bytes are lent beside the request: an enum that holds an array is not covered.
+// Whether a CorrelationID is given. Its 20 bytes are lent beside the request: an enum that holds an array is not
+// covered.
 pub enum Correlation {
     Absent,
     Given,

@@ -1,29 +1,15 @@
-// The section that a request would become: the sizes of its parts, and step 8.
+// The section that a request would become: its body, and whether a SecurityHeader stands first.
 use crate::request::Body;
 use crate::request::Request;
 use crate::signature::kept_bytes;
-use crate::text::label_units;
 use octets::count::Bytes;
-use octets::count::Units;
-use rules::properties::PropertiesFields;
-use rules::properties::section_end;
-use rules::section::LIMIT;
-use rules::security::SecurityFields;
-use rules::security::security_length;
 ghost use mathlib.Core.Path.{_≡_};
-ghost use mathlib.Core.Bool.{false};
-ghost use Prim.Native.Nat.{_+_};
 ghost use lib.ListN.{length};
-ghost use lib.Dec.{ltb};
-ghost use Rattle.rules.specs.Properties.{propertiesLength};
-ghost use Rattle.rules.specs.Refusal.{limit};
 ghost use Rattle.requests.specs.Defaults.{allocation, bodyOf};
-ghost use Rattle.requests.specs.Request.{sendRequest};
-ghost use Rattle.requests.specs.Section.{providerInfo, sectionLength, securityFirst};
-ghost use Rattle.requests.specs.Steps.{providerFails};
+ghost use Rattle.requests.specs.Section.{securityFirst};
 
 // An absent body is empty, whatever is lent.
-pub(crate) fn body_size(request: Request, body: &[u8]) -> Bytes
+pub fn body_size(request: Request, body: &[u8]) -> Bytes
     ensures { λ r. ⌜ r .0 ≡ length (bodyOf request (now (body .entry))) ⌝ }
 {
     let given = request.body;
@@ -34,7 +20,7 @@ pub(crate) fn body_size(request: Request, body: &[u8]) -> Bytes
 }
 
 // An absent body has allocation 0.
-pub(crate) fn allocation_of(request: Request) -> Bytes
+pub fn allocation_of(request: Request) -> Bytes
     ensures { λ r. ⌜ r .0 ≡ allocation request ⌝ }
 {
     let given = request.body;
@@ -52,7 +38,8 @@ pub fn security_first(
     signature: &[u8],
     sender_cert: &[u8],
 ) -> bool
-    ensures { λ r. ⌜ r ≡ securityFirst request (now («sender_id» .entry)) (now («encryption_key» .entry)) (now (signature .entry)) (now («sender_cert» .entry)) ⌝ }
+    ensures { λ r. ⌜ r ≡ securityFirst request (now («sender_id» .entry)) (now («encryption_key» .entry))
+        (now (signature .entry)) (now («sender_cert» .entry)) ⌝ }
 {
     if sender_id.len() != 0 {
         return true;
@@ -67,73 +54,4 @@ pub fn security_first(
         return true;
     }
     false
-}
-
-// Provider info is written only for a signature by another provider: its type, and its name with a null.
-// Step 4 has passed, so the name's count fits.
-fn provider_info_size(request: Request, signature: &[u8], provider_name: &[u16]) -> Bytes
-    requires { ⌜ providerFails request (now signature) (now «provider_name») ≡ false ⌝ }
-    ensures { λ r. ⌜ r .0 ≡ length (providerInfo request (now (signature .entry)) (now («provider_name» .entry))) ⌝ }
-{
-    if signature.len() == 0 {
-        return Bytes(0);
-    }
-    if request.default_provider {
-        return Bytes(0);
-    }
-    let name = Units(provider_name.len() as u32 + 1);
-    Bytes(4 + name.bytes().0)
-}
-
-// Whether a MessagePropertiesHeader of these sizes, at `at`, ends above the limit.
-fn ends_above(sizes: PropertiesFields, at: Bytes) -> bool
-    ensures { λ r. ⌜ r ≡ ltb limit (at .0 + propertiesLength sizes) ⌝ }
-{
-    LIMIT < section_end(sizes, at).0
-}
-
-// 8. A header's length depends on its sizes alone.
-pub(crate) fn above_the_limit(
-    request: Request,
-    title: &[u16],
-    sender_id: &[u8],
-    encryption_key: &[u8],
-    signature: &[u8],
-    sender_cert: &[u8],
-    provider_name: &[u16],
-    extension: &[u8],
-    body: &[u8],
-) -> bool
-    requires { ⌜ providerFails request (now signature) (now «provider_name») ≡ false ⌝ }
-    ensures { λ r. ⌜ r ≡ ltb limit (sectionLength (sendRequest request title «sender_id» «encryption_key» signature «sender_cert» «provider_name» extension body)) ⌝ }
-{
-    let properties = PropertiesFields {
-        flags: 0,
-        label_length: label_units(title),
-        message_class: 0,
-        body_type: 0,
-        message_size: body_size(request, body),
-        allocation_body_size: Bytes(0),
-        privacy_level: 0,
-        hash_algorithm: 0,
-        encryption_algorithm: 0,
-        extension_size: Bytes(extension.len()),
-    };
-    if !security_first(request, sender_id, encryption_key, signature, sender_cert) {
-        return ends_above(properties, Bytes(0));
-    }
-    let kept = kept_bytes(request, signature);
-    let security = SecurityFields {
-        flags: 0,
-        sender_id_size: Bytes(sender_id.len()),
-        encryption_key_size: Bytes(encryption_key.len()),
-        signature_size: Bytes(kept.length.0),
-        sender_cert_size: Bytes(sender_cert.len()),
-        provider_info_size: provider_info_size(request, signature, provider_name),
-    };
-    let at = security_length(security);
-    if LIMIT < at.0 {
-        return true;
-    }
-    ends_above(properties, at)
 }

@@ -9,7 +9,7 @@ ghost use lib.ListN.{length};
 ghost use Rattle.requests.specs.Defaults.{count, signatureOf};
 
 // The count of step 5, of so many bytes given. A name longer than the split number leaves none.
-pub(crate) fn signature_count(request: Request, given: Bytes) -> Bytes
+pub fn signature_count(request: Request, given: Bytes) -> Bytes
     ensures { λ r. ⌜ r .0 ≡ count request (given .0) ⌝ }
 {
     let split = request.split_number;
@@ -26,7 +26,7 @@ pub(crate) fn signature_count(request: Request, given: Bytes) -> Bytes
 }
 
 // Which bytes of the signature are kept.
-pub(crate) fn kept_bytes(request: Request, signature: &[u8]) -> Part
+pub fn kept_bytes(request: Request, signature: &[u8]) -> Part
     ensures { λ r. ⌜ r .start .0 ≡ length (now (signature .entry)) - count request (length (now (signature .entry))) ⌝ }
     ensures { λ r. ⌜ r .length .0 ≡ length (signatureOf request (now (signature .entry))) ⌝ }
 {

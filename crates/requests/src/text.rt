@@ -39,7 +39,7 @@ fn before_zero(units: &[u16]) -> Units
 }
 
 // How many units of a title are kept: those before the first zero, and of these 249, so that 250 hold them with a null.
-pub(crate) fn kept_units(title: &[u16]) -> Units
+pub fn kept_units(title: &[u16]) -> Units
     ensures { λ r. ⌜ r .0 ≡ length (titleOf (now (title .entry))) ⌝ }
 {
     if title.len() <= 249 {
@@ -49,7 +49,7 @@ pub(crate) fn kept_units(title: &[u16]) -> Units
 }
 
 // LabelLength: the units kept of a title and the null, or 0 where none is kept.
-pub(crate) fn label_units(title: &[u16]) -> Units
+pub fn label_units(title: &[u16]) -> Units
     ensures { λ r. ⌜ r .0 ≡ length (label (now (title .entry))) / 2 ⌝ }
 {
     let kept = kept_units(title);
@@ -60,7 +60,7 @@ pub(crate) fn label_units(title: &[u16]) -> Units
 }
 
 // Step 4: a name of 1 to 1,024 units without zero.
-pub(crate) fn name_fits(name: &[u16]) -> bool
+pub fn name_fits(name: &[u16]) -> bool
     ensures { λ r. ⌜ r ≡ nameFits (now (name .entry)) ⌝ }
 {
     if name.len() == 0 {

@@ -1,7 +1,9 @@
 // The values of a send request, each with the default that it gets where it is absent.
 use crate::request::Request;
 ghost use mathlib.Core.Path.{_≡_};
-ghost use Rattle.requests.specs.Defaults.{acknowledge, auditing, bodyType, class, delivery, deliveryGiven, encryption, encryptionAlgorithm, hash, kind, priority, privacy, providerType, tag, trace};
+ghost use Rattle.requests.specs.Defaults.{acknowledge, auditing, bodyType, class, delivery, deliveryGiven};
+ghost use Rattle.requests.specs.Defaults.{encryption, encryptionAlgorithm, hash, kind, priority, privacy};
+ghost use Rattle.requests.specs.Defaults.{providerType, tag, trace};
 
 pub fn priority(request: Request) -> u32
     ensures { λ r. ⌜ r ≡ priority request ⌝ }

@@ -1,4 +1,5 @@
-// 01's two verdicts, which go with an acceptance and refuse nothing.
+// 01's two verdicts, which go with an acceptance and refuse nothing. (Without a branch, so that a summary is filled in
+// straight lines.)
 use crate::properties::PropertiesFields;
 use crate::security::EB;
 use crate::security::SecurityFields;
@@ -9,94 +10,41 @@ ghost use Rattle.rules.specs.Summary.{authenticationFails, decryptionFai
 fn is_privacy_level(level: u32) -> bool
     ensures { λ r. ⌜ r ≡ listed privacyLevels level ⌝ }
 {
-    if level <= 1 {
-        return true;
-    }
-    if level < 3 {
-        return false;
-    }
-    if level <= 3 {
-        return true;
-    }
-    if level < 5 {
-        return false;
-    }
-    if level <= 5 {
-        return true;
-    }
-    false
+    (level == 0) | (level == 1) | (level == 3) | (level == 5)
 }
 
 fn is_hash_algorithm(algorithm: u32) -> bool
     ensures { λ r. ⌜ r ≡ listed hashAlgorithms algorithm ⌝ }
 {
-    if algorithm < 0x8001 {
-        return false;
-    }
-    if algorithm <= 0x8004 {
-        return true;
-    }
-    if algorithm < 0x800C {
-        return false;
-    }
-    if algorithm <= 0x800C {
-        return true;
-    }
-    if algorithm < 0x800E {
-        return false;
-    }
-    if algorithm <= 0x800E {
-        return true;
-    }
-    false
+    (algorithm == 0x8001)
+        | (algorithm == 0x8002)
+        | (algorithm == 0x8003)
+        | (algorithm == 0x8004)
+        | (algorithm == 0x800C)
+        | (algorithm == 0x800E)
 }
 
 fn is_encryption_algorithm(algorithm: u32) -> bool
     ensures { λ r. ⌜ r ≡ listed encryptionAlgorithms algorithm ⌝ }
 {
-    if algorithm < 0x6602 {
-        return false;
-    }
-    if algorithm <= 0x6602 {
-        return true;
-    }
-    if algorithm < 0x660E {
-        return false;
-    }
-    if algorithm <= 0x6610 {
-        return true;
-    }
-    if algorithm < 0x6801 {
-        return false;
-    }
-    if algorithm <= 0x6801 {
-        return true;
-    }
-    false
+    (algorithm == 0x6602)
+        | (algorithm == 0x660E)
+        | (algorithm == 0x660F)
+        | (algorithm == 0x6610)
+        | (algorithm == 0x6801)
 }
 
 pub fn authentication_fails(security: SecurityFields, properties: PropertiesFields) -> bool
     ensures { λ r. ⌜ r ≡ authenticationFails security properties ⌝ }
 {
-    if !is_privacy_level(properties.privacy_level) {
-        return true;
-    }
-    if 0 < security.signature_size.0 {
-        if !is_hash_algorithm(properties.hash_algorithm) {
-            return true;
-        }
-    }
-    false
+    let signed = 0 < security.signature_size.0;
+    !is_privacy_level(properties.privacy_level)
+        | (signed & !is_hash_algorithm(properties.hash_algorithm))
 }
 
 pub fn decryption_fails(security: SecurityFields, properties: PropertiesFields) -> bool
     ensures { λ r. ⌜ r ≡ decryptionFails security properties ⌝ }
 {
-    let flags = security.flags;
-    if flags / EB % 2 == 1 {
-        if !is_encryption_algorithm(properties.encryption_algorithm) {
-            return true;
-        }
-    }
-    false
+    let encrypted = security.flags / EB % 2 == 1;
+    encrypted & !is_encryption_algorithm(properties.encryption_algorithm)
 }

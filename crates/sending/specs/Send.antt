@@ -1,13 +1,14 @@
 -- 01, "Send requests": the section of a request, through the section writer, and what the sender answers.
 use Prim.Native.Nat.{ℕ}
 use mathlib.Core.Bool.{Bool, false, cond}
-use mathlib.Core.List.{List, _++_}
-use lib.ListN.{length, drop}
+use mathlib.Core.List.{List}
+use lib.ListN.{length}
 use lib.Dec.{ltb}
+use Rattle.rules.specs.Output.{writerOutput}
 use Rattle.rules.specs.Refusal.{bytes, refusal}
 use Rattle.rules.specs.declared.section.Output.{Output}
 use Rattle.rules.specs.declared.section.Output.the-variants.{Written, Refused as Output·Refused}
-use Rattle.writing.specs.Given.{Given}
+use Rattle.writing.specs.Given.{Given, Lent, given}
 use Rattle.writing.specs.Writing.{sectionBytes}
 use Rattle.writing.specs.declared.values.SectionValues.{SectionValues}
 use Rattle.requests.specs.Defaults.{bodyOf, correlationOf, properties, signatureOf}
@@ -20,6 +21,7 @@ use Rattle.requests.specs.declared.properties.Properties.{Properties}
 use Rattle.requests.specs.declared.properties.Sender.{Sender}
 use Rattle.requests.specs.declared.properties.Sender.the-variants.{Known, NotKnown}
 use Rattle.requests.specs.declared.properties.SenderValues.{SenderValues}
+use Rattle.requests.specs.declared.request.Request.{Request}
 
 -- a sender who is not known has kind 0 and no mark; a request's is known
 unfoldable pub senderOr : Sender → SenderValues
@@ -27,8 +29,8 @@ senderOr (Known values) = values
 senderOr NotKnown = record { kind = 0; «default_provider» = false; encryption = false }
 
 -- the values of the section: the defaulted properties, privacy mapped
-unfoldable pub valuesOf : Properties → Bool → SectionValues
-valuesOf p first =
+unfoldable pub valuesOf : Properties → Bool → List ℕ → SectionValues
+valuesOf p first correlationId =
     record {
       «security_first» = first;
       «security_flags» = securityFlags (senderOr (p .sender));
@@ -40,14 +42,14 @@ valuesOf p first =
       «privacy_level» = packetPrivacy (p .«privacy_level»);
       «hash_algorithm» = p .«hash_algorithm»;
       «encryption_algorithm» = p .«encryption_algorithm»;
+      «correlation_id» = correlationId;
     }
 
 -- and its parts
 unfoldable pub givenBy : SendRequest → List ℕ → Given
 givenBy q correlationId =
     record {
-      values = valuesOf (properties q) (first q);
-      correlationId = correlationOf (q .values) correlationId;
+      values = valuesOf (properties q) (first q) (correlationOf (q .values) correlationId);
       senderId = q .senderId;
       encryptionKey = q .encryptionKey;
       signature = signatureOf (q .values) (q .signature);
@@ -58,20 +60,21 @@ givenBy q correlationId =
       body = bodyOf (q .values) (q .body);
     }
 
+-- what a call gives the section writer, out of its parameters, with the provider info of a request
+abbrev pub withInfo : Request → Lent → Lent → SectionValues → Lent → Lent → Lent → Lent → Lent → Lent → Lent → Given
+withInfo request signature name values senderId encryptionKey kept senderCert label extension body =
+    given values (senderId .entry .now) (encryptionKey .entry .now) (kept .entry .now) (senderCert .entry .now)
+    (providerInfo request (signature .entry .now) (name .entry .now)) (label .entry .now) (extension .entry .now) (body .entry .now)
+
 -- 6: "Output: 13"
 unfoldable pub answerAfter : SendRequest → List ℕ → Defaulted → Output
 answerAfter q out (Defaulted·Properties p) =
     cond (ltb (length out) (sectionLength q)) (Output·Refused (refusal 13 0)) (Written (bytes (sectionLength q)))
 answerAfter q out (Defaulted·Refused r) = Output·Refused r
 
-unfoldable pub bytesAfter : SendRequest → List ℕ → List ℕ → Defaulted → List ℕ
-bytesAfter q correlationId out (Defaulted·Properties p) =
-    cond (ltb (length out) (sectionLength q)) out (sectionBytes (givenBy q correlationId) ++ drop (sectionLength q) out)
-bytesAfter q correlationId out (Defaulted·Refused r) = out
-
 -- what the sender answers, and what the lent output then holds
 unfoldable pub sendAnswer : SendRequest → List ℕ → Output
 sendAnswer q out = answerAfter q out (defaulted q)
 
 unfoldable pub sendBytes : SendRequest → List ℕ → List ℕ → List ℕ
-sendBytes q correlationId out = bytesAfter q correlationId out (defaulted q)
+sendBytes q correlationId out = writerOutput (sendAnswer q out) (sectionBytes (givenBy q correlationId)) out

@@ -2,9 +2,9 @@
 use crate::units::write_label;
 use crate::units::write_provider_info;
 use crate::values::section_values;
+use defaulting::defaulted::correlation_of;
+use defaulting::defaulted::defaulted;
 use octets::part::within;
-use requests::defaulted::correlation_of;
-use requests::defaulted::defaulted;
 use requests::properties::Defaulted;
 use requests::request::Request;
 use requests::section::security_first;
@@ -17,9 +17,8 @@ ghost use Prim.Native.Nat.{_≤_};
 ghost use lib.ListN.{length};
 ghost use Rattle.requests.specs.Request.{sendRequest};
 ghost use Rattle.requests.specs.Section.{providerInfo};
-ghost use Rattle.writing.specs.Given.{given};
 ghost use Rattle.writing.specs.Writing.{writeAnswer, writeBytes};
-ghost use Rattle.sending.specs.Send.{sendAnswer, sendBytes};
+ghost use Rattle.sending.specs.Send.{sendAnswer, sendBytes, withInfo};
 
 // The section with the request's provider info. A name of up to 61 units, as most are, takes a short array, so that a
 // send does not clear 2,054 bytes.
@@ -28,7 +27,6 @@ fn write_with_info(
     signature: &[u8],
     provider_name: &[u16],
     values: SectionValues,
-    correlation_id: CorrelationId,
     sender_id: &[u8],
     encryption_key: &[u8],
     kept: &[u8],
@@ -39,15 +37,16 @@ fn write_with_info(
     out: &mut [u8],
 ) -> Output
     requires { ⌜ length (providerInfo request (now signature) (now «provider_name»)) ≤ 2054 ⌝ }
-    ensures { λ r. ⌜ r ≡ writeAnswer (given values «correlation_id» (now («sender_id» .entry)) (now («encryption_key» .entry)) (now (kept .entry)) (now («sender_cert» .entry)) (providerInfo request (now (signature .entry)) (now («provider_name» .entry))) (now (label .entry)) (now (extension .entry)) (now (body .entry))) (now (out .entry)) ⌝ }
-    ensures { λ _. ⌜ now (out .exit) ≡ writeBytes (given values «correlation_id» (now («sender_id» .entry)) (now («encryption_key» .entry)) (now (kept .entry)) (now («sender_cert» .entry)) (providerInfo request (now (signature .entry)) (now («provider_name» .entry))) (now (label .entry)) (now (extension .entry)) (now (body .entry))) (now (out .entry)) ⌝ }
+    ensures { λ r. ⌜ r ≡ writeAnswer (withInfo request signature «provider_name» values «sender_id»
+        «encryption_key» kept «sender_cert» label extension body) (now (out .entry)) ⌝ }
+    ensures { λ _. ⌜ now (out .exit) ≡ writeBytes (withInfo request signature «provider_name» values «sender_id»
+        «encryption_key» kept «sender_cert» label extension body) (now (out .entry)) ⌝ }
 {
     if provider_name.len() <= 61 {
         let mut info = [0u8; 128];
         let size = write_provider_info(request, signature, provider_name, &mut info).0;
         return write_section(
             values,
-            correlation_id,
             sender_id,
             encryption_key,
             kept,
@@ -63,7 +62,6 @@ fn write_with_info(
     let size = write_provider_info(request, signature, provider_name, &mut info).0;
     write_section(
         values,
-        correlation_id,
         sender_id,
         encryption_key,
         kept,
@@ -91,8 +89,10 @@ pub fn send(
     body: &[u8],
     out: &mut [u8],
 ) -> Output
-    ensures { λ r. ⌜ r ≡ sendAnswer (sendRequest request title «sender_id» «encryption_key» signature «sender_cert» «provider_name» extension body) (now (out .entry)) ⌝ }
-    ensures { λ _. ⌜ now (out .exit) ≡ sendBytes (sendRequest request title «sender_id» «encryption_key» signature «sender_cert» «provider_name» extension body) «correlation_id» (now (out .entry)) ⌝ }
+    ensures { λ r. ⌜ r ≡ sendAnswer (sendRequest request title «sender_id» «encryption_key»
+        signature «sender_cert» «provider_name» extension body) (now (out .entry)) ⌝ }
+    ensures { λ _. ⌜ now (out .exit) ≡ sendBytes (sendRequest request title «sender_id» «encryption_key»
+        signature «sender_cert» «provider_name» extension body) «correlation_id» (now (out .entry)) ⌝ }
 {
     let properties = match defaulted(
         request,
@@ -118,8 +118,7 @@ pub fn send(
         request,
         signature,
         provider_name,
-        section_values(properties, first),
-        correlation_of(request, correlation_id),
+        section_values(properties, first, correlation_of(request, correlation_id)),
         sender_id,
         encryption_key,
         within(signature, kept.start, kept.length),

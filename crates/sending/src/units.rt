@@ -63,7 +63,8 @@ pub(crate) fn write_provider_info(
     requires { ⌜ length (providerInfo request (now signature) (now «provider_name»)) ≤ 2054 ⌝ }
     requires { ⌜ length (providerInfo request (now signature) (now «provider_name»)) ≤ length (now out) ⌝ }
     ensures { λ r. ⌜ r .0 ≡ length (providerInfo request (now (signature .entry)) (now («provider_name» .entry))) ⌝ }
-    ensures { λ _. ⌜ now (out .exit) ≡ over (providerInfo request (now (signature .entry)) (now («provider_name» .entry))) (now (out .entry)) ⌝ }
+    ensures { λ _. ⌜ now (out .exit)
+        ≡ over (providerInfo request (now (signature .entry)) (now («provider_name» .entry))) (now (out .entry)) ⌝ }
 {
     if signature.len() == 0 {
         return Bytes(0);

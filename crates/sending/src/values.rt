@@ -2,6 +2,7 @@
 use requests::properties::Properties;
 use requests::properties::Sender;
 use requests::properties::SenderValues;
+use rules::section::CorrelationId;
 use writing::values::SectionValues;
 ghost use mathlib.Core.Path.{_≡_};
 ghost use mathlib.Core.Bool.{cond};
@@ -58,11 +59,15 @@ fn security_flags(sender: SenderValues) -> u16
     sender.kind as u16 + mark(sender.encryption, EB) + mark(sender.default_provider, DE) + DP
 }
 
-pub(crate) fn section_values(properties: Properties, first: bool) -> SectionValues
+pub(crate) fn section_values(
+    properties: Properties,
+    first: bool,
+    correlation_id: CorrelationId,
+) -> SectionValues
     requires { ⌜ senderOr (properties .sender) .kind ≤ 2 ⌝ }
     requires { ⌜ properties .acknowledge < 256 ⌝ }
     requires { ⌜ properties .«message_class» < 65536 ⌝ }
-    ensures { λ r. ⌜ r ≡ valuesOf properties first ⌝ }
+    ensures { λ r. ⌜ r ≡ valuesOf properties first «correlation_id» ⌝ }
 {
     let sender = properties.sender;
     let allocation_body_size = properties.allocation_body_size;
@@ -77,5 +82,6 @@ pub(crate) fn section_values(properties: Properties, first: bool) -> SectionValu
         privacy_level: packet_privacy(properties.privacy_level),
         hash_algorithm: properties.hash_algorithm,
         encryption_algorithm: properties.encryption_algorithm,
+        correlation_id,
     }
 }

@@ -2,5 +2,6 @@
 // error, with the system's reason, and to the caller.
 pub mod input;
 pub mod output;
+pub mod section;
 pub mod window;
 pub mod word;

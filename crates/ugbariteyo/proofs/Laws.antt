@@ -1,1 +1,3 @@
 pub mod Label
+pub mod Queue
+pub mod Record

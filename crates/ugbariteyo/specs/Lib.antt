@@ -2,6 +2,9 @@ pub mod Defaulted
 pub mod Label
 pub mod Output
 pub mod Queue
+pub mod Record
+pub mod Refusals
 pub mod Request
 pub mod Section
+pub mod Send
 pub mod Zero

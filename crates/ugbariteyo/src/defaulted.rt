@@ -4,10 +4,10 @@ use crate::request::UgbRequest;
 use crate::request::request_of;
 use crate::zero::no_part;
 use crate::zero::no_refusal;
+use defaulting::defaulted::correlation_of;
+use defaulting::defaulted::defaulted;
 use octets::count::Bytes;
 use octets::count::Units;
-use requests::defaulted::correlation_of;
-use requests::defaulted::defaulted;
 use requests::properties::Defaulted;
 use requests::properties::Handling;
 use requests::properties::Properties;
@@ -19,7 +19,9 @@ use rules::section::CorrelationId;
 use rules::section::Part;
 ghost use mathlib.Core.Path.{_≡_};
 ghost use Rattle.requests.specs.Request.{sendRequest};
-ghost use Rattle.ugbariteyo.specs.Defaulted.{defaultedAnswer, handlingAnswer, noDefaulted, noHandling, noNumber, noSender, numberAnswer, propertiesAnswer, providerTypeAnswer, senderAnswer};
+ghost use Rattle.ugbariteyo.specs.Defaulted.{defaultedAnswer, handlingAnswer, numberAnswer, propertiesAnswer};
+ghost use Rattle.ugbariteyo.specs.Defaulted.{noDefaulted, noHandling, noNumber, noSender};
+ghost use Rattle.ugbariteyo.specs.Defaulted.{providerTypeAnswer, senderAnswer};
 ghost use Rattle.ugbariteyo.specs.Request.{requestOf};
 
 // What no section carries.
@@ -216,9 +218,8 @@ fn no_defaulted() -> UgbProperties
 }
 
 #[no_mangle]
-pub extern "C" fn ugb_defaulted(
+pub extern "C" fn ugb_defaulted_positional(
     request: UgbRequest,
-    correlation_id: &CorrelationId,
     title: &[u16],
     sender_id: &[u8],
     encryption_key: &[u8],
@@ -228,9 +229,11 @@ pub extern "C" fn ugb_defaulted(
     extension: &[u8],
     body: &[u8],
 ) -> UgbDefaulted
-    ensures { λ r. ⌜ r ≡ defaultedAnswer (sendRequest (requestOf request) title «sender_id» «encryption_key» signature «sender_cert» «provider_name» extension body) (now («correlation_id» .entry)) ⌝ }
+    ensures { λ r. ⌜ r ≡ defaultedAnswer (sendRequest (requestOf request) title «sender_id» «encryption_key»
+        signature «sender_cert» «provider_name» extension body) (request .«correlation_id») ⌝ }
 {
     let given = request_of(request);
+    let correlation_id = request.correlation_id;
     match defaulted(
         given,
         title,
@@ -250,7 +253,7 @@ pub extern "C" fn ugb_defaulted(
         Defaulted::Properties(p) => UgbDefaulted {
             refusal: no_refusal(),
             properties: properties_answer(p),
-            correlation_id: correlation_of(given, *correlation_id),
+            correlation_id: correlation_of(given, correlation_id),
         },
     }
 }

@@ -5,6 +5,7 @@ pub mod defaulted;
 pub mod label;
 pub mod output;
 pub mod queue;
+pub mod record;
 pub mod request;
 pub mod section;
 pub mod send;

@@ -14,7 +14,7 @@ ghost use mathlib.Core.Path.{_≡_};
 ghost use Rattle.queues.specs.Read.{readImage};
 ghost use Rattle.queues.specs.Write.{writeAnswer, writeBytes};
 ghost use Rattle.ugbariteyo.specs.Output.{outputAnswer};
-ghost use Rattle.ugbariteyo.specs.Queue.{imageAnswer};
+ghost use Rattle.ugbariteyo.specs.Queue.{imageAnswer, WrittenAgain};
 
 #[repr(C)]
 pub struct UgbImageRead {
@@ -27,6 +27,7 @@ pub struct UgbImageRead {
 #[no_mangle]
 pub extern "C" fn ugb_read_image(s: &[u8]) -> UgbImageRead
     ensures { λ r. ⌜ r ≡ imageAnswer (readImage (now (s .entry))) ⌝ }
+    ensures { λ r. ⌜ WrittenAgain (now (s .entry)) r ⌝ }
 {
     match read_image(s) {
         ImageRead::Refused(refusal) => {

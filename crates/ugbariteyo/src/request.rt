@@ -4,6 +4,7 @@ use requests::request::Body;
 use requests::request::Correlation;
 use requests::request::Number;
 use requests::request::Request;
+use rules::section::CorrelationId;
 ghost use mathlib.Core.Path.{_≡_};
 ghost use Rattle.ugbariteyo.specs.Request.{bodyOf, correlationOf, numberOf, requestOf};
 
@@ -32,6 +33,7 @@ pub struct UgbRequest {
     pub split_number: UgbNumber,
     pub provider_name_length: u32,
     pub correlation_given: bool,
+    pub correlation_id: CorrelationId,
     pub body_given: bool,
     pub allocation_body_size: Bytes,
     pub transaction: bool,
@@ -67,7 +69,7 @@ fn body_of(given: bool, allocation: Bytes) -> Body
     Body::Absent
 }
 
-pub(crate) fn request_of(q: UgbRequest) -> Request
+pub fn request_of(q: UgbRequest) -> Request
     ensures { λ r. ⌜ r ≡ requestOf q ⌝ }
 {
     Request {

@@ -2,25 +2,15 @@
 // place.)
 use crate::zero::no_refusal;
 use crate::zero::no_section;
-use crate::zero::no_summary;
 use reading::same::same_summary;
-use reading::section::read;
-use reading::section::summarize;
+use reading::section::ReadingCase;
+use reading::section::reading_case;
 use rules::refusal::Refusal;
-use rules::section::Reading;
 use rules::section::Section;
-use rules::section::Summarized;
-use rules::section::Summary;
 ghost use mathlib.Core.Path.{_≡_};
 ghost use mathlib.Core.Bool.{true};
-ghost use Rattle.rules.specs.Reading.{read, SameSummary, summarize};
-ghost use Rattle.ugbariteyo.specs.Section.{readingAnswer, summaryAnswer};
-
-#[repr(C)]
-pub struct UgbSummarized {
-    pub refusal: Refusal,
-    pub summary: Summary,
-}
+ghost use Rattle.rules.specs.Reading.{read, SameSummary};
+ghost use Rattle.ugbariteyo.specs.Section.{readingAnswer};
 
 #[repr(C)]
 pub struct UgbReading {
@@ -29,37 +19,23 @@ pub struct UgbReading {
 }
 
 #[no_mangle]
-pub extern "C" fn ugb_summarize(s: &[u8], security_first: bool) -> UgbSummarized
-    ensures { λ r. ⌜ r ≡ summaryAnswer (summarize «security_first» (now (s .entry))) ⌝ }
-{
-    match summarize(s, security_first) {
-        Summarized::Refused(refusal) => {
-            return UgbSummarized {
-                refusal,
-                summary: no_summary(),
-            };
-        }
-        Summarized::Accepted(summary) => {
-            return UgbSummarized {
-                refusal: no_refusal(),
-                summary,
-            };
-        }
-    }
-}
-
-#[no_mangle]
 pub extern "C" fn ugb_read(s: &[u8], security_first: bool) -> UgbReading
     ensures { λ r. ⌜ r ≡ readingAnswer (read «security_first» (now (s .entry))) ⌝ }
 {
-    match read(s, security_first) {
-        Reading::Refused(refusal) => {
+    match reading_case(s, security_first) {
+        ReadingCase::Refused(refusal) => {
             return UgbReading {
                 refusal,
                 section: no_section(),
             };
         }
-        Reading::Accepted(section) => {
+        ReadingCase::WithSecurity(section) => {
+            return UgbReading {
+                refusal: no_refusal(),
+                section,
+            };
+        }
+        ReadingCase::WithoutSecurity(section) => {
             return UgbReading {
                 refusal: no_refusal(),
                 section,

@@ -1,18 +1,16 @@
 // The section writer.
 use crate::output::UgbOutput;
 use crate::output::output_answer;
-use rules::section::CorrelationId;
 use writing::section::write_section;
 use writing::values::SectionValues;
 ghost use mathlib.Core.Path.{_≡_};
-ghost use Rattle.writing.specs.Given.{given};
+ghost use Rattle.writing.specs.Given.{lent};
 ghost use Rattle.writing.specs.Writing.{writeAnswer, writeBytes};
 ghost use Rattle.ugbariteyo.specs.Output.{outputAnswer};
 
 #[no_mangle]
-pub extern "C" fn ugb_write_section(
+pub extern "C" fn ugb_write_section_positional(
     values: SectionValues,
-    correlation_id: &CorrelationId,
     sender_id: &[u8],
     encryption_key: &[u8],
     signature: &[u8],
@@ -23,12 +21,13 @@ pub extern "C" fn ugb_write_section(
     body: &[u8],
     out: &mut [u8],
 ) -> UgbOutput
-    ensures { λ r. ⌜ r ≡ outputAnswer (writeAnswer (given values (now («correlation_id» .entry)) (now («sender_id» .entry)) (now («encryption_key» .entry)) (now (signature .entry)) (now («sender_cert» .entry)) (now («provider_info» .entry)) (now (label .entry)) (now (extension .entry)) (now (body .entry))) (now (out .entry))) ⌝ }
-    ensures { λ _. ⌜ now (out .exit) ≡ writeBytes (given values (now («correlation_id» .entry)) (now («sender_id» .entry)) (now («encryption_key» .entry)) (now (signature .entry)) (now («sender_cert» .entry)) (now («provider_info» .entry)) (now (label .entry)) (now (extension .entry)) (now (body .entry))) (now (out .entry)) ⌝ }
+    ensures { λ r. ⌜ r ≡ outputAnswer (writeAnswer (lent values «sender_id» «encryption_key» signature
+        «sender_cert» «provider_info» label extension body) (now (out .entry))) ⌝ }
+    ensures { λ _. ⌜ now (out .exit) ≡ writeBytes (lent values «sender_id» «encryption_key» signature
+        «sender_cert» «provider_info» label extension body) (now (out .entry)) ⌝ }
 {
     output_answer(write_section(
         values,
-        *correlation_id,
         sender_id,
         encryption_key,
         signature,

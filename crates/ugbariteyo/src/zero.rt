@@ -48,7 +48,7 @@ fn no_properties() -> PropertiesFields
     }
 }
 
-pub(crate) fn no_summary() -> Summary
+fn no_summary() -> Summary
     ensures { λ r. ⌜ r ≡ noSummary ⌝ }
 {
     let none = no_part();

@@ -1,6 +1,8 @@
 -- 01, "Writing": "the full reading's values and parts, with the sizes given by the parts"
 use Prim.Native.Nat.{ℕ, _/_, _%_}
 use mathlib.Core.List.{List}
+use denote.Ref.{RefT}
+use denote.Triple.Both.{Both}
 use lib.ListN.{length}
 use Rattle.octets.specs.Number.{toLe}
 use Rattle.rules.specs.Properties.{FixedProperties}
@@ -11,7 +13,6 @@ use Rattle.writing.specs.declared.values.SectionValues.{SectionValues}
 
 pub record Given : Type 0 where
   pub values : SectionValues
-  pub correlationId : List ℕ
   pub senderId : List ℕ
   pub encryptionKey : List ℕ
   pub signature : List ℕ
@@ -21,11 +22,10 @@ pub record Given : Type 0 where
   pub extension : List ℕ
   pub body : List ℕ
 
-abbrev pub given : SectionValues → List ℕ → List ℕ → List ℕ → List ℕ → List ℕ → List ℕ → List ℕ → List ℕ → List ℕ → Given
-given values correlationId senderId encryptionKey signature senderCert providerInfo label extension body =
+abbrev pub given : SectionValues → List ℕ → List ℕ → List ℕ → List ℕ → List ℕ → List ℕ → List ℕ → List ℕ → Given
+given values senderId encryptionKey signature senderCert providerInfo label extension body =
     record {
       values = values;
-      correlationId = correlationId;
       senderId = senderId;
       encryptionKey = encryptionKey;
       signature = signature;
@@ -35,6 +35,22 @@ given values correlationId senderId encryptionKey signature senderCert providerI
       extension = extension;
       body = body;
     }
+
+-- a part as an `ensures` has it: the slice that was lent
+abbrev pub Lent : Type 0
+Lent = Both (RefT (List ℕ)) (RefT (List ℕ))
+
+-- what a call is given, out of its parameters: as a `requires` has them, and as an `ensures` has them
+abbrev pub held : SectionValues → RefT (List ℕ) → RefT (List ℕ) → RefT (List ℕ) → RefT (List ℕ) → RefT (List ℕ)
+    → RefT (List ℕ) → RefT (List ℕ) → RefT (List ℕ) → Given
+held values senderId encryptionKey signature senderCert providerInfo label extension body =
+    given values (senderId .now) (encryptionKey .now) (signature .now) (senderCert .now) (providerInfo .now) (label .now)
+    (extension .now) (body .now)
+
+abbrev pub lent : SectionValues → Lent → Lent → Lent → Lent → Lent → Lent → Lent → Lent → Given
+lent values senderId encryptionKey signature senderCert providerInfo label extension body =
+    given values (senderId .entry .now) (encryptionKey .entry .now) (signature .entry .now) (senderCert .entry .now)
+    (providerInfo .entry .now) (label .entry .now) (extension .entry .now) (body .entry .now)
 
 -- the fields of a SecurityHeader with these Flags and parts; "X bits .. are written zero"
 unfoldable pub securityFrom : ℕ → List ℕ → List ℕ → List ℕ → List ℕ → List ℕ → SecurityFields

@@ -19,7 +19,7 @@ use Rattle.writing.specs.Writing.{layoutLength, writeAnswer, writeBytes}
 
 -- the values fit their fields, as their types in the code have it
 pub record WellFormed (g : Given) : Type 0 where
-  pub correlation : length (g .correlationId) ≡ 20
+  pub correlation : length (g .values .«correlation_id») ≡ 20
   pub class : g .values .«message_class» < 65536
   pub «body_type» : g .values .«body_type» < 4294967296
   pub tag : g .values .«application_tag» < 4294967296
@@ -34,7 +34,7 @@ pub record ReadsBack (g : Given) (s : List ℕ) (r : Section) : Type 0 where
   pub security : g .values .«security_first» ≡ true → r .summary .security .fields ≡ securityGiven g
   pub properties : r .summary .properties ≡ propertiesGiven g
   pub tag : r .«application_tag» ≡ g .values .«application_tag»
-  pub correlation : partOf s (r .«correlation_id») ≡ g .correlationId
+  pub correlation : partOf s (r .«correlation_id») ≡ g .values .«correlation_id»
   pub senderId : g .values .«security_first» ≡ true → partOf s (r .summary .security .parts .«sender_id») ≡ g .senderId
   pub encryptionKey : g .values .«security_first» ≡ true → partOf s (r .summary .security .parts .«encryption_key») ≡ g .encryptionKey
   pub signature : g .values .«security_first» ≡ true → partOf s (r .summary .security .parts .signature) ≡ g .signature
@@ -61,8 +61,8 @@ givenOf r s =
             «privacy_level» = m .properties .«privacy_level»;
             «hash_algorithm» = m .properties .«hash_algorithm»;
             «encryption_algorithm» = m .properties .«encryption_algorithm»;
+            «correlation_id» = partOf s (r .«correlation_id»);
           };
-      correlationId = partOf s (r .«correlation_id»);
       senderId = partOf s (m .security .parts .«sender_id»);
       encryptionKey = partOf s (m .security .parts .«encryption_key»);
       signature = partOf s (m .security .parts .signature);
@@ -89,8 +89,8 @@ hidden g =
             «privacy_level» = g .values .«privacy_level»;
             «hash_algorithm» = g .values .«hash_algorithm»;
             «encryption_algorithm» = g .values .«encryption_algorithm»;
+            «correlation_id» = replicate 20 0;
           };
-      correlationId = replicate 20 0;
       senderId =
           take (judgedIdentity (securityGiven g)) (g .senderId)
           ++ replicate (length (g .senderId) - judgedIdentity (securityGiven g)) 0;

@@ -2,9 +2,10 @@
 use Prim.Native.Nat.{ℕ, _+_, _%_}
 use mathlib.Core.Bool.{Bool, not, _||_, cond}
 use mathlib.Core.List.{List, [], _++_}
-use lib.ListN.{length, drop, replicate}
+use lib.ListN.{length, replicate}
 use lib.Dec.{eqb, ltb}
 use Rattle.octets.specs.Padding.{padding}
+use Rattle.rules.specs.Output.{writerOutput}
 use Rattle.rules.specs.Properties.{labelContents, propertiesLength, propertiesRow, propertiesSteps}
 use Rattle.rules.specs.Refusal.{bytes, firstOf, limit, refusal}
 use Rattle.rules.specs.Row.{rowBytes}
@@ -80,7 +81,7 @@ securityBytes g =
 
 -- the fixed bytes of a MessagePropertiesHeader, then the parts
 unfoldable pub propertiesFixed : Given → List ℕ
-propertiesFixed g = rowBytes propertiesRow (fixed (propertiesGiven g) (g .correlationId) (g .values .«application_tag»))
+propertiesFixed g = rowBytes propertiesRow (fixed (propertiesGiven g) (g .values .«correlation_id») (g .values .«application_tag»))
 
 unfoldable pub propertiesBytes : Given → List ℕ
 propertiesBytes g = paddedPart (propertiesFixed g ++ (g .label ++ (g .extension ++ g .body)))
@@ -95,9 +96,6 @@ writeAnswer g out =
     (cond (ltb (length out) (layoutLength g)) (Refused (refusal 13 0))  -- 13
     (Written (bytes (layoutLength g))))
 
--- what the lent output then holds: a refused one as it was, "no output byte written"; else the section, and "bytes behind it stay"
+-- what the lent output then holds
 unfoldable pub writeBytes : Given → List ℕ → List ℕ
-writeBytes g out =
-    cond (not (eqb (writeRefusal g .number) 0)) out
-    (cond (ltb (length out) (layoutLength g)) out
-    (sectionBytes g ++ drop (layoutLength g) out))
+writeBytes g out = writerOutput (writeAnswer g out) (sectionBytes g) out

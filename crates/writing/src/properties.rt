@@ -62,7 +62,9 @@ pub(crate) fn properties_number(
     body: &[u8],
     at: Bytes,
 ) -> u32
-    ensures { λ r. ⌜ r ≡ endNumber (at .0) (propertiesFrom values (now (label .entry)) (now (extension .entry)) (now (body .entry))) (now (label .entry)) ⌝ }
+    ensures { λ r. ⌜ r ≡ endNumber (at .0)
+        (propertiesFrom values (now (label .entry)) (now (extension .entry)) (now (body .entry)))
+        (now (label .entry)) ⌝ }
 {
     if label.len() % 2 != 0 {
         return refusal::LABEL_LENGTH;
@@ -90,7 +92,8 @@ fn write_properties_head(
 )
     requires { ⌜ PropertiesSized f ⌝ }
     requires { ⌜ 32 ≤ length (now out) ⌝ }
-    ensures { λ _. ⌜ now (out .exit) ≡ over (propertiesHead (fixed f «correlation_id» «application_tag»)) (now (out .entry)) ⌝ }
+    ensures { λ _. ⌜ now (out .exit)
+        ≡ over (propertiesHead (fixed f «correlation_id» «application_tag»)) (now (out .entry)) ⌝ }
 {
     write_u8(out, Bytes(0), f.flags);
     write_u8(out, Bytes(1), f.label_length.0 as u8);
@@ -117,7 +120,8 @@ fn write_properties_tail(f: PropertiesFields, out: &mut [u8])
 // The parts, with nothing between them, each lent the output behind the last.
 fn write_properties_parts(label: &[u8], extension: &[u8], body: &[u8], out: &mut [u8])
     requires { ⌜ length (now label) + length (now extension) + length (now body) ≤ length (now out) ⌝ }
-    ensures { λ _. ⌜ now (out .exit) ≡ over (now (label .entry) ++ (now (extension .entry) ++ now (body .entry))) (now (out .entry)) ⌝ }
+    ensures { λ _. ⌜ now (out .exit)
+        ≡ over (now (label .entry) ++ (now (extension .entry) ++ now (body .entry))) (now (out .entry)) ⌝ }
 {
     let extension_at = label.len();
     let body_at = extension_at + extension.len();
@@ -138,7 +142,9 @@ pub(crate) fn write_properties(
 )
     requires { ⌜ PropertiesSized f ⌝ }
     requires { ⌜ padded 4 (56 + length (now label) + length (now extension) + length (now body)) ≤ length (now out) ⌝ }
-    ensures { λ _. ⌜ now (out .exit) ≡ over (paddedPart (rowBytes propertiesRow (fixed f «correlation_id» «application_tag») ++ (now (label .entry) ++ (now (extension .entry) ++ now (body .entry))))) (now (out .entry)) ⌝ }
+    ensures { λ _. ⌜ now (out .exit)
+        ≡ over (paddedPart (rowBytes propertiesRow (fixed f «correlation_id» «application_tag»)
+        ++ (now (label .entry) ++ (now (extension .entry) ++ now (body .entry))))) (now (out .entry)) ⌝ }
 {
     let size = 56 + label.len() + extension.len() + body.len();
     let zeros = padding(Bytes(size)).0;

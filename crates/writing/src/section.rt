@@ -10,7 +10,6 @@ use octets::count::Bytes;
 use rules::properties::section_end;
 use rules::refusal;
 use rules::refusal::Refusal;
-use rules::section::CorrelationId;
 use rules::section::Output;
 use rules::security::SecurityFields;
 use rules::security::security_length;
@@ -18,9 +17,10 @@ ghost use mathlib.Core.Path.{_≡_};
 ghost use Prim.Native.Nat.{_+_, min};
 ghost use Rattle.octets.specs.Over.{over};
 ghost use Rattle.rules.specs.Refusal.{limit, refusal};
-ghost use Rattle.writing.specs.Given.{given, propertiesFrom, securityFrom};
+ghost use Rattle.writing.specs.Given.{held, lent};
 ghost use Rattle.writing.specs.Laid.{SectionLaid};
-ghost use Rattle.writing.specs.Writing.{headerNumber, judgeGiven, sectionBytes, startOf, writeAnswer, writeBytes, writeRefusal};
+ghost use Rattle.writing.specs.Writing.{headerNumber, sectionBytes, startOf};
+ghost use Rattle.writing.specs.Writing.{writeAnswer, writeBytes, writeRefusal};
 
 // 28 and the steps on the SecurityHeader, where one stands first.
 fn header_number(security_first: bool, f: SecurityFields, identity: &[u8], info: &[u8]) -> u32
@@ -54,7 +54,8 @@ fn judge(
     extension: &[u8],
     body: &[u8],
 ) -> Refusal
-    ensures { λ r. ⌜ r ≡ judgeGiven (values .«security_first») (securityFrom (values .«security_flags») (now («sender_id» .entry)) (now («encryption_key» .entry)) (now (signature .entry)) (now («sender_cert» .entry)) (now («provider_info» .entry))) (now («sender_id» .entry)) (now («provider_info» .entry)) (propertiesFrom values (now (label .entry)) (now (extension .entry)) (now (body .entry))) (now (label .entry)) ⌝ }
+    ensures { λ r. ⌜ r ≡ writeRefusal (lent values «sender_id» «encryption_key» signature
+        «sender_cert» «provider_info» label extension body) ⌝ }
 {
     let security = security_given(
         values.security_flags,
@@ -81,7 +82,6 @@ fn judge(
 // The section, where every step has passed and the output has room. Its MessagePropertiesHeader begins at `start`.
 fn write_headers(
     values: SectionValues,
-    correlation_id: CorrelationId,
     sender_id: &[u8],
     encryption_key: &[u8],
     signature: &[u8],
@@ -93,8 +93,10 @@ fn write_headers(
     start: Bytes,
     out: &mut [u8],
 )
-    requires { ⌜ SectionLaid (given values «correlation_id» (now «sender_id») (now «encryption_key») (now signature) (now «sender_cert») (now «provider_info») (now label) (now extension) (now body)) (start .0) (now out) ⌝ }
-    ensures { λ _. ⌜ now (out .exit) ≡ over (sectionBytes (given values «correlation_id» (now («sender_id» .entry)) (now («encryption_key» .entry)) (now (signature .entry)) (now («sender_cert» .entry)) (now («provider_info» .entry)) (now (label .entry)) (now (extension .entry)) (now (body .entry)))) (now (out .entry)) ⌝ }
+    requires { ⌜ SectionLaid (held values «sender_id» «encryption_key» signature
+        «sender_cert» «provider_info» label extension body) (start .0) (now out) ⌝ }
+    ensures { λ _. ⌜ now (out .exit) ≡ over (sectionBytes (lent values «sender_id» «encryption_key» signature
+        «sender_cert» «provider_info» label extension body)) (now (out .entry)) ⌝ }
 {
     let first = values.security_first;
     if first {
@@ -116,6 +118,7 @@ fn write_headers(
         );
     }
     let at = start.0;
+    let correlation_id = values.correlation_id;
     write_properties(
         properties_given(values, label, extension, body),
         correlation_id,
@@ -139,7 +142,6 @@ fn output_short() -> Output
 // 13, and the section, where every step before has passed.
 fn write_judged(
     values: SectionValues,
-    correlation_id: CorrelationId,
     sender_id: &[u8],
     encryption_key: &[u8],
     signature: &[u8],
@@ -151,10 +153,12 @@ fn write_judged(
     start: Bytes,
     out: &mut [u8],
 ) -> Output
-    requires { ⌜ writeRefusal (given values «correlation_id» (now «sender_id») (now «encryption_key») (now signature) (now «sender_cert») (now «provider_info») (now label) (now extension) (now body)) .number ≡ 0 ⌝ }
-    requires { ⌜ writeRefusal (given values «correlation_id» (now «sender_id») (now «encryption_key») (now signature) (now «sender_cert») (now «provider_info») (now label) (now extension) (now body)) .place ≡ start ⌝ }
-    ensures { λ r. ⌜ r ≡ writeAnswer (given values «correlation_id» (now («sender_id» .entry)) (now («encryption_key» .entry)) (now (signature .entry)) (now («sender_cert» .entry)) (now («provider_info» .entry)) (now (label .entry)) (now (extension .entry)) (now (body .entry))) (now (out .entry)) ⌝ }
-    ensures { λ _. ⌜ now (out .exit) ≡ writeBytes (given values «correlation_id» (now («sender_id» .entry)) (now («encryption_key» .entry)) (now (signature .entry)) (now («sender_cert» .entry)) (now («provider_info» .entry)) (now (label .entry)) (now (extension .entry)) (now (body .entry))) (now (out .entry)) ⌝ }
+    requires { ⌜ writeRefusal (held values «sender_id» «encryption_key» signature
+        «sender_cert» «provider_info» label extension body) ≡ refusal 0 (start .0) ⌝ }
+    ensures { λ r. ⌜ r ≡ writeAnswer (lent values «sender_id» «encryption_key» signature
+        «sender_cert» «provider_info» label extension body) (now (out .entry)) ⌝ }
+    ensures { λ _. ⌜ now (out .exit) ≡ writeBytes (lent values «sender_id» «encryption_key» signature
+        «sender_cert» «provider_info» label extension body) (now (out .entry)) ⌝ }
 {
     let length = section_end(properties_given(values, label, extension, body), start);
     if out.len() < length.0 {
@@ -162,7 +166,6 @@ fn write_judged(
     }
     write_headers(
         values,
-        correlation_id,
         sender_id,
         encryption_key,
         signature,
@@ -181,7 +184,6 @@ fn write_judged(
 // Bytes behind the section stay as they are.
 pub fn write_section(
     values: SectionValues,
-    correlation_id: CorrelationId,
     sender_id: &[u8],
     encryption_key: &[u8],
     signature: &[u8],
@@ -192,8 +194,10 @@ pub fn write_section(
     body: &[u8],
     out: &mut [u8],
 ) -> Output
-    ensures { λ r. ⌜ r ≡ writeAnswer (given values «correlation_id» (now («sender_id» .entry)) (now («encryption_key» .entry)) (now (signature .entry)) (now («sender_cert» .entry)) (now («provider_info» .entry)) (now (label .entry)) (now (extension .entry)) (now (body .entry))) (now (out .entry)) ⌝ }
-    ensures { λ _. ⌜ now (out .exit) ≡ writeBytes (given values «correlation_id» (now («sender_id» .entry)) (now («encryption_key» .entry)) (now (signature .entry)) (now («sender_cert» .entry)) (now («provider_info» .entry)) (now (label .entry)) (now (extension .entry)) (now (body .entry))) (now (out .entry)) ⌝ }
+    ensures { λ r. ⌜ r ≡ writeAnswer (lent values «sender_id» «encryption_key» signature
+        «sender_cert» «provider_info» label extension body) (now (out .entry)) ⌝ }
+    ensures { λ _. ⌜ now (out .exit) ≡ writeBytes (lent values «sender_id» «encryption_key» signature
+        «sender_cert» «provider_info» label extension body) (now (out .entry)) ⌝ }
 {
     let judged = judge(
         values,
@@ -211,7 +215,6 @@ pub fn write_section(
     }
     write_judged(
         values,
-        correlation_id,
         sender_id,
         encryption_key,
         signature,

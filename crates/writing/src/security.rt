@@ -29,7 +29,8 @@ pub(crate) fn security_given(
     sender_cert: &[u8],
     provider_info: &[u8],
 ) -> SecurityFields
-    ensures { λ r. ⌜ r ≡ securityFrom flags (now («sender_id» .entry)) (now («encryption_key» .entry)) (now (signature .entry)) (now («sender_cert» .entry)) (now («provider_info» .entry)) ⌝ }
+    ensures { λ r. ⌜ r ≡ securityFrom flags (now («sender_id» .entry)) (now («encryption_key» .entry))
+        (now (signature .entry)) (now («sender_cert» .entry)) (now («provider_info» .entry)) ⌝ }
 {
     SecurityFields {
         flags: (flags % 4096) as u32,
@@ -96,8 +97,11 @@ fn write_security_parts(
     provider_info: &[u8],
     out: &mut [u8],
 )
-    requires { ⌜ partsLength (now «sender_id») (now «encryption_key») (now signature) (now «sender_cert») (now «provider_info») ≤ length (now out) ⌝ }
-    ensures { λ _. ⌜ now (out .exit) ≡ over (securityPartsBytes (now («sender_id» .entry)) (now («encryption_key» .entry)) (now (signature .entry)) (now («sender_cert» .entry)) (now («provider_info» .entry))) (now (out .entry)) ⌝ }
+    requires { ⌜ partsLength (now «sender_id») (now «encryption_key») (now signature)
+        (now «sender_cert») (now «provider_info») ≤ length (now out) ⌝ }
+    ensures { λ _. ⌜ now (out .exit)
+        ≡ over (securityPartsBytes (now («sender_id» .entry)) (now («encryption_key» .entry))
+        (now (signature .entry)) (now («sender_cert» .entry)) (now («provider_info» .entry))) (now (out .entry)) ⌝ }
 {
     let key_at = write_padded_part(sender_id, out).0;
     let signature_at = key_at + write_padded_part(encryption_key, &mut out[key_at..]).0;
@@ -117,8 +121,11 @@ pub(crate) fn write_security(
     out: &mut [u8],
 )
     requires { ⌜ SecuritySized f ⌝ }
-    requires { ⌜ 16 + partsLength (now «sender_id») (now «encryption_key») (now signature) (now «sender_cert») (now «provider_info») ≤ length (now out) ⌝ }
-    ensures { λ _. ⌜ now (out .exit) ≡ over (rowBytes securityRow f ++ securityPartsBytes (now («sender_id» .entry)) (now («encryption_key» .entry)) (now (signature .entry)) (now («sender_cert» .entry)) (now («provider_info» .entry))) (now (out .entry)) ⌝ }
+    requires { ⌜ 16 + partsLength (now «sender_id») (now «encryption_key») (now signature)
+        (now «sender_cert») (now «provider_info») ≤ length (now out) ⌝ }
+    ensures { λ _. ⌜ now (out .exit) ≡ over (rowBytes securityRow f
+        ++ securityPartsBytes (now («sender_id» .entry)) (now («encryption_key» .entry))
+        (now (signature .entry)) (now («sender_cert» .entry)) (now («provider_info» .entry))) (now (out .entry)) ⌝ }
 {
     write_security_fixed(f, out);
     write_security_parts(

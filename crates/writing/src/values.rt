@@ -1,5 +1,6 @@
 // What the section writer is given beside the parts.
 use octets::count::Bytes;
+use rules::section::CorrelationId;
 
 // The values of a full reading. The sizes come from the parts.
 #[repr(C)]
@@ -14,4 +15,5 @@ pub struct SectionValues {
     pub privacy_level: u32,
     pub hash_algorithm: u32,
     pub encryption_algorithm: u32,
+    pub correlation_id: CorrelationId,
 }

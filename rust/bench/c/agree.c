@@ -46,8 +46,8 @@ static bool same_output(const ugb_output *a, const ugb_output *b)
 
 bool reads_agree(const section *l)
 {
-    ugb_reading library = ugb_read(l->s.first, l->s.length, l->security_first), tuned;
-    tuned_read(&tuned, l->s.first, l->s.length, l->security_first);
+    ugb_reading library = ugb_read(l->s.bytes, l->s.length, l->security_first), tuned;
+    tuned_read(&tuned, l->s.bytes, l->s.length, l->security_first);
     return same_reading(&library, &tuned);
 }
 
@@ -61,15 +61,15 @@ static void fill(uint8_t *out, uint8_t *tuned_out, size_t length)
 bool copies_agree(const section *l, uint8_t *out, uint8_t *tuned_out, size_t length)
 {
     fill(out, tuned_out, length);
-    ugb_output library = ugb_support_copy(l->s.first, l->s.length, l->security_first, out, length);
-    ugb_output tuned = tuned_support_copy(l->s.first, l->s.length, l->security_first, tuned_out, length);
+    ugb_output library = ugb_support_copy(l->s.bytes, l->s.length, l->security_first, out, length);
+    ugb_output tuned = tuned_support_copy(l->s.bytes, l->s.length, l->security_first, tuned_out, length);
     return same_output(&library, &tuned) && memcmp(out, tuned_out, length) == 0;
 }
 
 bool writings_agree(const given *l, uint8_t *out, uint8_t *tuned_out, size_t length)
 {
     fill(out, tuned_out, length);
-    ugb_output library = write_given(ugb_write_section, l, out, length);
+    ugb_output library = ugb_write_section(l->values, &l->parts, out, length);
     ugb_output tuned = write_given(tuned_write_section, l, tuned_out, length);
     return same_output(&library, &tuned) && memcmp(out, tuned_out, length) == 0;
 }

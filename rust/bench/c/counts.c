@@ -53,19 +53,19 @@ enum { INPUTS = sizeof inputs / sizeof *inputs, SECURED = 1 };
 #define SECTION i->s, i->s_length
 #define FIRST i->given->values->security_first
 #define OUT i->out, i->out_length
-#define FORMAT ((ugb_queue_format){image_sample.first[0], image_sample.first[1]})
+#define FORMAT ((ugb_queue_format){image_sample.bytes[0], image_sample.bytes[1]})
 
 CALL(call_read, ugb_read(SECTION, FIRST))
 CALL(call_summarize, ugb_summarize(SECTION, FIRST))
 CALL(call_same_summary, ugb_same_summary(SECTION, SECTION, FIRST))
 CALL(call_label_shown, ugb_label_shown(SECTION, FIRST))
 CALL(call_support_copy, ugb_support_copy(SECTION, FIRST, OUT))
-CALL(call_write, write_given(ugb_write_section, i->given, OUT))
+CALL(call_write, ugb_write_section(i->given->values, &i->given->parts, OUT))
 CALL(call_send, send_sample(OUT))
 CALL(call_defaulted, defaulted_sample())
-CALL(call_read_image, ugb_read_image(image_sample.first, image_sample.length))
-CALL(call_read_cut_image, ugb_read_image(image_sample.first, image_sample.length - 2))
-CALL(call_write_image, ugb_write_image(FORMAT, NULL, 0, image_sample.first + 4, image_sample.length - 4, OUT))
+CALL(call_read_image, ugb_read_image(image_sample.bytes, image_sample.length))
+CALL(call_read_cut_image, ugb_read_image(image_sample.bytes, image_sample.length - 2))
+CALL(call_write_image, ugb_write_image(FORMAT, NULL, 0, image_sample.bytes + 4, image_sample.length - 4, OUT))
 
 typedef void call(input *i);
 
@@ -100,8 +100,8 @@ static void count_refused(const char *what, size_t at, uint8_t wrong)
 int main(void)
 {
     input *secured = &inputs[SECURED];
-    for (int i = 0; i < INPUTS; i++)
-        inputs[i].s_length = write_given(ugb_write_section, inputs[i].given, inputs[i].s, ROOM).length;
+    for (input *i = inputs; i < inputs + INPUTS; i++)
+        i->s_length = ugb_write_section(i->given->values, &i->given->parts, i->s, ROOM).length;
 
     count_sections("read", call_read);
     count_sections("summarize", call_summarize);

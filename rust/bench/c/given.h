@@ -1,28 +1,19 @@
-/* What a section is written from: the arguments of ugb_write_section, but for the output. */
+/* What a section is written from, and a writer that takes its parts in turn. */
 #ifndef GIVEN_H
 #define GIVEN_H
 
 #include "ugbariteyo.h"
 
-typedef struct bytes {
-    const uint8_t *first;
-    size_t length;
-} bytes;
-
 typedef struct given {
     const ugb_section_values *values;
-    const uint8_t *correlation_id;
-    bytes identity, key, signature, certificate, provider, label, extension, body;
+    ugb_section_parts parts;
 } given;
 
-typedef __typeof__(ugb_write_section) writer;
+typedef __typeof__(ugb_write_section_positional) writer;
 
 static inline ugb_output write_given(writer *write, const given *g, uint8_t *out, size_t out_length)
 {
-    return write(*g->values, g->correlation_id, g->identity.first, g->identity.length, g->key.first, g->key.length,
-                 g->signature.first, g->signature.length, g->certificate.first, g->certificate.length,
-                 g->provider.first, g->provider.length, g->label.first, g->label.length, g->extension.first,
-                 g->extension.length, g->body.first, g->body.length, out, out_length);
+    return write(*g->values, UGB_SECTION_PARTS(&g->parts), out, out_length);
 }
 
 #endif

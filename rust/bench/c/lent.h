@@ -5,7 +5,7 @@
 #include "given.h"
 
 typedef struct section {
-    bytes s;
+    ugb_bytes s;
     bool security_first;
 } section;
 
@@ -21,8 +21,8 @@ LOOP_OF(support_copy, section);
 LOOP_OF(write_section, given);
 LOOP_OF(send, void);
 LOOP_OF(defaulted, void);
-LOOP_OF(read_image, bytes);
-LOOP_OF(write_image, bytes);
+LOOP_OF(read_image, ugb_bytes);
+LOOP_OF(write_image, ugb_bytes);
 
 /* The tuned calls. */
 LOOP_OF(tuned_read, section);

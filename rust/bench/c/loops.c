@@ -28,18 +28,18 @@ static inline void looked_at(const ugb_refusal *refusal)
     }
 
 #define ANSWERED(name, lent, type, call) LOOP(name, lent, type answer = call, looked_at(&answer.refusal))
-#define SECTION l->s.first, l->s.length
+#define SECTION l->s.bytes, l->s.length
 #define OUT out, out_length
 
 ANSWERED(read, section, ugb_reading, ugb_read(SECTION, l->security_first))
 ANSWERED(summarize, section, ugb_summarized, ugb_summarize(SECTION, l->security_first))
 ANSWERED(support_copy, section, ugb_output, ugb_support_copy(SECTION, l->security_first, OUT))
-ANSWERED(write_section, given, ugb_output, write_given(ugb_write_section, l, OUT))
-ANSWERED(send, void, ugb_output, send_sample(OUT))
+ANSWERED(write_section, given, ugb_output, ugb_write_section(l->values, &l->parts, OUT))
+ANSWERED(send, void, ugb_sent, send_sample(OUT))
 ANSWERED(defaulted, void, ugb_defaulted_answer, defaulted_sample())
-ANSWERED(read_image, bytes, ugb_image_read, ugb_read_image(l->first, l->length))
-ANSWERED(write_image, bytes, ugb_output,
-         ugb_write_image((ugb_queue_format){l->first[0], l->first[1]}, NULL, 0, l->first + 4, l->length - 4, OUT))
+ANSWERED(read_image, ugb_bytes, ugb_image_read, ugb_read_image(l->bytes, l->length))
+ANSWERED(write_image, ugb_bytes, ugb_output,
+         ugb_write_image((ugb_queue_format){l->bytes[0], l->bytes[1]}, NULL, 0, l->bytes + 4, l->length - 4, OUT))
 
 ANSWERED(tuned_support_copy, section, ugb_output, tuned_support_copy(SECTION, l->security_first, OUT))
 ANSWERED(tuned_write_section, given, ugb_output, write_given(tuned_write_section, l, OUT))
@@ -49,12 +49,11 @@ LOOP(tuned_read, section, ugb_reading answer; tuned_read(&answer, SECTION, l->se
 LOOP(same_summary, section, bool answer = ugb_same_summary(SECTION, OUT, l->security_first), )
 
 /* The bytes that are shown. */
-static inline bytes label_shown(const section *l)
+static inline ugb_bytes label_shown(const section *l)
 {
     static const uint8_t stand_in[8];
     ugb_label label = ugb_label_shown(SECTION, l->security_first);
-    return label.stand_in ? (bytes){stand_in, sizeof stand_in}
-                          : (bytes){l->s.first + label.part.start, label.part.length};
+    return label.stand_in ? (ugb_bytes){stand_in, sizeof stand_in} : ugb_bytes_of(label.part, l->s.bytes);
 }
 
-LOOP(label_shown, section, bytes answer = label_shown(l), )
+LOOP(label_shown, section, ugb_bytes answer = label_shown(l), )

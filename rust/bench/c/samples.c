@@ -12,7 +12,6 @@ __attribute__((constructor)) static void fill_pattern(void)
 
 /* ---- Sections */
 
-static const uint8_t correlation_id[20] = {[0 ... 19] = 9};
 static const uint8_t identity[28] = {1, 5, 0, 0, 0, 0, 0, 5,  21, 0,  0,    0, 1, 2,
                                      3, 4, 5, 6, 7, 8, 9, 10, 11, 12, 0xF4, 1, 0, 0};
 static const uint16_t provider_info[] = u"\1\0Microsoft Base Cryptographic Provider v1.0"; /* type 1, in 4 bytes */
@@ -29,31 +28,32 @@ static const uint16_t label[LABEL_UNITS] = {[0 ... LABEL_UNITS - 2] = 'x'};
         .privacy_level = 1,                                                                                            \
         .hash_algorithm = 0x8003,                                                                                      \
         .encryption_algorithm = 0x6801,                                                                                \
+        .correlation_id = {[0 ... 19] = 9},                                                                            \
     })
 
 const given plain_sample = {
     .values = VALUES(false, BODY),
-    .correlation_id = correlation_id,
-    .body = {pattern, BODY},
+    .parts.body = {pattern, BODY},
 };
 
 const given long_sample = {
     .values = VALUES(false, LONG_BODY),
-    .correlation_id = correlation_id,
-    .body = {pattern, LONG_BODY},
+    .parts.body = {pattern, LONG_BODY},
 };
 
 const given secured_sample = {
     .values = VALUES(true, BODY),
-    .correlation_id = correlation_id,
-    .identity = {identity, sizeof identity},
-    .key = {pattern, 128},
-    .signature = {pattern, SIGNATURE},
-    .certificate = {pattern, 1000},
-    .provider = {(const uint8_t *)provider_info, sizeof provider_info},
-    .label = {(const uint8_t *)label, sizeof label},
-    .extension = {pattern, 20},
-    .body = {pattern, BODY},
+    .parts =
+        {
+            .sender_id = {identity, sizeof identity},
+            .encryption_key = {pattern, 128},
+            .signature = {pattern, SIGNATURE},
+            .sender_cert = {pattern, 1000},
+            .provider_info = {(const uint8_t *)provider_info, sizeof provider_info},
+            .label = {(const uint8_t *)label, sizeof label},
+            .extension = {pattern, 20},
+            .body = {pattern, BODY},
+        },
 };
 
 /* ---- The request */
@@ -64,26 +64,31 @@ static const ugb_request request = {
     .hash_algorithm = {true, 0x8003},
     .sender_kind = {true, 1},
     .provider_type = {true, 1},
+    .correlation_id = {[0 ... 19] = 9},
     .body_given = true,
     .allocation_body_size = BODY,
 };
 
-/* Title, identity, no key, signature, no certificate, the provider's name without its null, no extension, body. */
-#define PARTS                                                                                                          \
-    correlation_id, title, TITLE_UNITS, identity, sizeof identity, NULL, 0, pattern, SIGNATURE, NULL, 0,               \
-        provider_info + 2, sizeof provider_info / 2 - 3, NULL, 0, pattern, BODY
+/* No key, certificate and extension; the provider's name without its null. */
+static const ugb_request_parts parts = {
+    .title = {title, TITLE_UNITS},
+    .sender_id = {identity, sizeof identity},
+    .signature = {pattern, SIGNATURE},
+    .provider_name = {provider_info + 2, sizeof provider_info / 2 - 3},
+    .body = {pattern, BODY},
+};
 
-ugb_output send_sample(uint8_t *out, size_t out_length)
+ugb_sent send_sample(uint8_t *out, size_t out_length)
 {
-    return ugb_send(request, PARTS, out, out_length);
+    return ugb_send(&request, &parts, out, out_length);
 }
 
 ugb_defaulted_answer defaulted_sample(void)
 {
-    return ugb_defaulted(request, PARTS);
+    return ugb_defaulted(&request, &parts);
 }
 
 /* ---- The image */
 
 static const uint16_t image[] = u"\3\0DIRECT=OS:scanner-07\\private$\\findings";
-const bytes image_sample = {(const uint8_t *)image, sizeof image};
+const ugb_bytes image_sample = {(const uint8_t *)image, sizeof image};

@@ -8,10 +8,10 @@
 extern const given plain_sample, long_sample, secured_sample;
 
 /* A signed request with a title of 40 units and a body of 100 bytes: sent, and its defaulted properties. */
-ugb_output send_sample(uint8_t *out, size_t out_length);
+ugb_sent send_sample(uint8_t *out, size_t out_length);
 ugb_defaulted_answer defaulted_sample(void);
 
 /* The image of a direct format name. */
-extern const bytes image_sample;
+extern const ugb_bytes image_sample;
 
 #endif

@@ -15,13 +15,13 @@ pub fn check(samples: &[Sample]) {
         let lengths = [section.len(), section.len() - 1];
         let values = sample.values();
         let values = [values, independent::SectionValues { message_class: 0x8008, ..values }];
-        let reads = lengths.map(|length| c::Section::new(&section, sample.security_first).agrees(length));
+        let reads = lengths.map(|length| c::Section::new(&section, sample.first()).agrees(length));
         let writes =
             values.map(|values| lengths.map(|length| c::Given::new(&section_values(&values)).agrees(length)));
         assert_eq!((reads, writes), ([true; 2], [[true; 2]; 2]), "tuned: {}", sample.name);
     }
     for refused in Refused::all() {
-        let section = c::Section::new(&refused.section, refused.security_first);
+        let section = c::Section::new(&refused.section, refused.first);
         assert!(section.agrees(refused.section.len()), "tuned: {}", refused.what);
     }
     check_request();

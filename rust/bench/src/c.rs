@@ -7,7 +7,7 @@ use std::ffi::c_void;
 use std::marker::PhantomData;
 use std::ptr;
 
-use ugbariteyo::SectionValues;
+use ugbariteyo::{First, SectionValues};
 
 /// Bytes that are lent.
 #[repr(C)]
@@ -27,13 +27,14 @@ impl<'a> From<&'a [u8]> for Bytes<'a> {
 #[repr(C)]
 pub struct Section<'a> {
     bytes: Bytes<'a>,
-    security_first: bool,
+    /// In C a bool: whether a SecurityHeader stands first.
+    first: First,
 }
 
 impl<'a> Section<'a> {
     /// The section at the start of `bytes`.
-    pub fn new(bytes: &'a [u8], security_first: bool) -> Self {
-        Self { bytes: bytes.into(), security_first }
+    pub fn new(bytes: &'a [u8], first: First) -> Self {
+        Self { bytes: bytes.into(), first }
     }
 }
 
@@ -42,7 +43,6 @@ impl<'a> Section<'a> {
 pub struct Given<'a> {
     /// The numbers stand first in the values, and lie as in C.
     values: *const c_void,
-    correlation_id: *const u8,
     parts: [Bytes<'a>; 8],
 }
 
@@ -59,11 +59,7 @@ impl<'a> Given<'a> {
             values.extension,
             values.body,
         ];
-        Self {
-            values: ptr::from_ref(values).cast(),
-            correlation_id: values.correlation_id.as_ptr(),
-            parts: parts.map(Bytes::from),
-        }
+        Self { values: ptr::from_ref(values).cast(), parts: parts.map(Bytes::from) }
     }
 }
 
@@ -134,7 +130,7 @@ impl Given<'_> {
 #[cfg(test)]
 mod tests {
     use super::{Given, Section};
-    use compare::library::section_values;
+    use compare::library::{first, section_values};
     use independent::generate::{case, section_values as generated_values, Random};
 
     const CASES: u64 = 20_000;
@@ -147,7 +143,7 @@ mod tests {
             for security_first in [case.security_first, !case.security_first] {
                 let read = independent::read(&case.bytes, security_first);
                 let length = read.map_or(100, |section| section.summary.length);
-                let section = Section::new(&case.bytes, security_first);
+                let section = Section::new(&case.bytes, first(security_first));
                 let agrees = [length + 9, length, length - 1].map(|length| section.agrees(length));
                 assert_eq!(agrees, [true; 3], "security first {security_first}, {:02X?}", case.bytes);
             }

@@ -12,12 +12,12 @@ use crate::timing::{taken, Repeated};
 
 /// Reading a section.
 pub fn read(sample: &Sample) -> Row {
-    let (section, first) = (sample.section(), sample.security_first);
+    let (section, first) = (sample.section(), sample.first());
     let lent = c::Section::new(&section, first);
     let calls = vec![
         (Library, taken(|| library::read(&section, first))),
         (FromC, from_c(|times| c::read(&lent, &mut [], times))),
-        (PlainRust, taken(|| independent::read(&section, first))),
+        (PlainRust, taken(|| independent::read(&section, sample.security_first))),
         (TunedC, from_c(|times| c::tuned_read(&lent, &mut [], times))),
     ];
     Row::timed(format!("read, {}", sample.name), section.len(), calls)
@@ -25,7 +25,7 @@ pub fn read(sample: &Sample) -> Row {
 
 /// The summary of a section; of a summary in Rust, class, label and length are taken.
 pub fn summarize(sample: &Sample) -> Row {
-    let (section, first) = (sample.section(), sample.security_first);
+    let (section, first) = (sample.section(), sample.first());
     let lent = c::Section::new(&section, first);
     let values = |summary: library::Summary<'_>| {
         (summary.message_class, summary.label.bytes().len(), summary.section_length)
@@ -39,25 +39,25 @@ pub fn summarize(sample: &Sample) -> Row {
 
 /// The same summary of a section and of another that agrees with it.
 pub fn same_summary(sample: &Sample) -> Row {
-    let (section, first) = (sample.section(), sample.security_first);
+    let (section, first) = (sample.section(), sample.first());
     let (other, mut lent_other) = (section.clone(), section.clone());
     let lent = c::Section::new(&section, first);
     let calls = vec![
         (Library, taken(|| library::same_summary(&section, &other, first))),
         (FromC, from_c(|times| c::same_summary(&lent, &mut lent_other, times))),
-        (PlainRust, taken(|| independent::same_summary(&section, &other, first))),
+        (PlainRust, taken(|| independent::same_summary(&section, &other, sample.security_first))),
     ];
     Row::timed(format!("same summary, {}", sample.name), section.len(), calls)
 }
 
 /// The label shown of a section.
 pub fn label_shown(sample: &Sample) -> Row {
-    let (section, first) = (sample.section(), sample.security_first);
+    let (section, first) = (sample.section(), sample.first());
     let lent = c::Section::new(&section, first);
     let calls = vec![
         (Library, taken(|| library::label_shown(&section, first, STAND_IN))),
         (FromC, from_c(|times| c::label_shown(&lent, &mut [], times))),
-        (PlainRust, taken(|| independent::label_shown(&section, first, STAND_IN))),
+        (PlainRust, taken(|| independent::label_shown(&section, sample.security_first, STAND_IN))),
     ];
     Row::timed(format!("label shown, {}", sample.name), section.len(), calls)
 }
@@ -67,13 +67,13 @@ pub const STAND_IN: &[u8] = b"no label";
 
 /// The support copy of a section.
 pub fn support_copy(sample: &Sample) -> Row {
-    let (section, first) = (sample.section(), sample.security_first);
+    let (section, first) = (sample.section(), sample.first());
     let lent = c::Section::new(&section, first);
     let out = Output::new(section.len());
     let calls = vec![
         (Library, out.written(|out| library::support_copy(&section, first, out))),
         (FromC, out.lent(|out, times| c::support_copy(&lent, out, times))),
-        (PlainRust, out.written(|out| independent::support_copy(&section, first, out))),
+        (PlainRust, out.written(|out| independent::support_copy(&section, sample.security_first, out))),
         (TunedC, out.lent(|out, times| c::tuned_support_copy(&lent, out, times))),
     ];
     written(format!("support copy, {}", sample.name), &out, calls)
@@ -140,15 +140,27 @@ pub fn read_image() -> Row {
 pub fn write_image() -> Row {
     let image = image();
     let lent = c::Bytes::from(&image[..]);
-    let format = library::QueueFormat { kind: image[0], suffix_and_flags: image[1] };
-    let text = &image[4..];
+    let read = library::read_image(&image).expect("the sample is legal");
     let out = Output::new(image.len());
     let calls = vec![
-        (Library, out.written(|out| library::write_image(format, &[], text, out))),
+        (Library, out.written(|out| library::write_image(&read, out))),
         (FromC, out.lent(|out, times| c::write_image(&lent, out, times))),
-        (PlainRust, out.written(|out| independent::queue::write_image(image[0], image[1], &[], text, out))),
+        (
+            PlainRust,
+            out.written(|out| independent::queue::write_image(image[0], image[1], &[], &image[4..], out)),
+        ),
     ];
     written("queue image write, direct name".into(), &out, calls)
+}
+
+/// The next record of a day's file, which is this sample's.
+pub fn next_record(sample: &Sample) -> Row {
+    let record = sample.record();
+    let calls = vec![
+        (Library, taken(|| library::next_record(&record))),
+        (PlainRust, taken(|| independent::listing::next_record(&record))),
+    ];
+    Row::timed(format!("next record, {}", sample.name), record.len(), calls)
 }
 
 fn from_c<'a>(calls: impl FnMut(u64) + 'a) -> Repeated<'a> {

@@ -27,7 +27,7 @@ pub fn print(samples: &[Sample]) {
 }
 
 fn grown(sample: &Sample) -> String {
-    let (section, first) = (sample.section(), sample.security_first);
+    let (section, first) = (sample.section(), sample.first());
     let values = sample.values();
     let values = section_values(&values);
     let out = Output::new(section.len());
@@ -46,10 +46,10 @@ fn grown(sample: &Sample) -> String {
 fn beside_accepted(refused: &Refused) -> String {
     let out = Output::new(refused.accepted.len());
     let calls = [&refused.section, &refused.accepted].map(|section| {
-        let read = taken(|| library::read(section, refused.security_first));
+        let read = taken(|| library::read(section, refused.first));
         let copy = out.lent(|out, times| {
             for _ in 0..times {
-                let _ = black_box(library::support_copy(section, refused.security_first, out));
+                let _ = black_box(library::support_copy(section, refused.first, out));
             }
         });
         [read, copy]

@@ -7,7 +7,7 @@ use std::path::Path;
 use std::process::{Command, Stdio};
 use std::time::Instant;
 
-use crate::samples::Sample;
+use crate::samples::{record, Sample};
 use crate::table::{Column, Row};
 
 /// The argument that makes this program list its standard input with the independent library.
@@ -32,19 +32,15 @@ pub fn row(program: &Path) -> io::Result<Row> {
 
 /// Seven records in ten with a short body, one with every security part, one of 4 KB, one that is refused.
 fn write_day(file: &Path) -> io::Result<()> {
-    let sections = [
-        Sample::plain("", 100).section(),
-        Sample::secured("").section(),
-        Sample::plain("", 4_096).section(),
-        vec![0xFF; 60],
+    let records = [
+        Sample::plain("", 100).record(),
+        Sample::secured("").record(),
+        Sample::plain("", 4_096).record(),
+        record(false, &[0xFF; 60]),
     ];
     let mut out = BufWriter::new(File::create(file)?);
     for number in 0..RECORDS {
-        let kind = [0, 0, 1, 0, 0, 2, 0, 0, 3, 0][number % 10];
-        let section = &sections[kind];
-        out.write_all(&[0x57, 0x52, u8::from(kind == 1), 0])?;
-        out.write_all(&(section.len() as u32).to_le_bytes())?;
-        out.write_all(section)?;
+        out.write_all(&records[[0, 0, 1, 0, 0, 2, 0, 0, 3, 0][number % 10]])?;
     }
     out.flush()
 }

@@ -64,6 +64,7 @@ fn bench(date: Option<&str>) -> io::Result<()> {
     println!("{}", calls::defaulted());
     println!("{}", calls::read_image());
     println!("{}", calls::write_image());
+    short.iter().for_each(|sample| println!("{}", calls::next_record(sample)));
     println!("{}", listing::row(program)?);
     Ok(())
 }

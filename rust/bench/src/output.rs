@@ -34,7 +34,7 @@ impl Output {
     }
 
     /// A call that must not be refused, to be repeated.
-    pub fn written<'a, E>(&'a self, call: impl Fn(&mut [u8]) -> Result<usize, E> + 'a) -> Repeated<'a> {
+    pub fn written<'a, T, E>(&'a self, call: impl Fn(&mut [u8]) -> Result<T, E> + 'a) -> Repeated<'a> {
         self.lent(move |out, times| {
             for _ in 0..times {
                 assert!(call(out).is_ok());

@@ -1,6 +1,6 @@
 //! Sections that are refused: one for each cause, beside the section without the fault.
 
-use ugbariteyo::read;
+use ugbariteyo::{read, First};
 
 use crate::samples::Sample;
 
@@ -9,7 +9,7 @@ pub struct Refused {
     /// The step, the cause and the sample.
     pub what: String,
     /// How it is read.
-    pub security_first: bool,
+    pub first: First,
     /// The section.
     pub section: Vec<u8>,
     /// The section without the fault.
@@ -64,12 +64,12 @@ impl Refused {
     }
 
     fn new(sample: &Sample, &(what, number, fault): &Cause) -> Self {
-        let (accepted, security_first) = (sample.section(), sample.security_first);
-        let security = read(&accepted, security_first).expect("the sample is legal").summary().security;
+        let (accepted, first) = (sample.section(), sample.first());
+        let security = read(&accepted, first).expect("the sample is legal").summary().security;
         let mut section = accepted.clone();
         fault(&mut section, security.map_or(0, |security| security.length));
-        let refusal = read(&section, security_first).expect_err("a fault is refused");
+        let refusal = read(&section, first).expect_err("a fault is refused");
         assert_eq!(refusal.number, number, "{what}");
-        Self { what: format!("{what}; {}", sample.name), security_first, section, accepted }
+        Self { what: format!("{what}; {}", sample.name), first, section, accepted }
     }
 }

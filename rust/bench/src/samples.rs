@@ -1,7 +1,9 @@
 //! The sections, the request and the queue format that are timed.
 
+use compare::library::first;
 use independent::request::Request;
 use independent::SectionValues;
+use ugbariteyo::First;
 
 /// Parts of a section, which own their bytes.
 #[derive(Clone, Default)]
@@ -76,6 +78,11 @@ impl Sample {
         [&labels[..], &names, &bodies, &extensions].concat()
     }
 
+    /// Which header stands first.
+    pub fn first(&self) -> First {
+        first(self.security_first)
+    }
+
     /// What the section writer takes.
     pub fn values(&self) -> SectionValues<'_> {
         SectionValues {
@@ -108,6 +115,17 @@ impl Sample {
         let room = 256 + parts.map(Vec::len).sum::<usize>();
         written(room, |out| independent::write_section(&self.values(), out))
     }
+
+    /// The section as a record of a day's file.
+    pub fn record(&self) -> Vec<u8> {
+        record(self.security_first, &self.section())
+    }
+}
+
+/// The record of a day's file with this section.
+pub fn record(security_first: bool, section: &[u8]) -> Vec<u8> {
+    let length = (section.len() as u32).to_le_bytes();
+    [&[0x57, 0x52, u8::from(security_first), 0], &length[..], section].concat()
 }
 
 /// The parts of a signed request, which own their bytes.

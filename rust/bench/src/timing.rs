@@ -28,7 +28,12 @@ pub fn best(mut calls: Vec<Repeated<'_>>) -> Vec<f64> {
     for round in 0..ROUNDS {
         // how the stack lies to a cache line and to the buffers in a page counts
         let turn = [deeper::<16>, deeper::<1_056>, deeper::<2_096>, deeper::<3_136>][round % 4];
-        for ((call, &times), best) in calls.iter_mut().zip(&times).zip(&mut best) {
+        let mut in_turn: Vec<_> = calls.iter_mut().zip(&times).zip(&mut best).collect();
+        // and what the call before left in the caches, which is another one the other way round
+        if round / 4 % 2 == 1 {
+            in_turn.reverse();
+        }
+        for ((call, &times), best) in in_turn {
             *best = best.min(turn(call, times) / times as f64);
         }
     }

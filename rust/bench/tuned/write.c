@@ -29,11 +29,10 @@ static inline void put_security(uint8_t *out, const security *x, const parts par
     }
 }
 
-static inline uint8_t *put_properties(uint8_t *out, const properties *x, const ugb_section_values *values,
-                                      const uint8_t *correlation_id)
+static inline uint8_t *put_properties(uint8_t *out, const properties *x, const ugb_section_values *values)
 {
     put32(out, (values->flags & 0x0F) | (uint32_t)x->label / 2 << 8 | x->class << 16);
-    memcpy(out + 4, correlation_id, 20);
+    memcpy(out + 4, values->correlation_id, 20);
     put32(out + 24, values->body_type);
     put32(out + 28, values->application_tag);
     put32(out + 32, (uint32_t)x->body);
@@ -68,7 +67,7 @@ static inline ugb_output refused(uint32_t number, size_t place)
     return (ugb_output){{number, place}, 0};
 }
 
-ugb_output tuned_write_section(ugb_section_values values, const uint8_t correlation_id[20], const uint8_t *sender_id,
+ugb_output tuned_write_section(ugb_section_values values, const uint8_t *sender_id,
                                size_t sender_id_length, const uint8_t *encryption_key, size_t encryption_key_length,
                                const uint8_t *signature, size_t signature_length, const uint8_t *sender_cert,
                                size_t sender_cert_length, const uint8_t *provider_info, size_t provider_info_length,
@@ -99,7 +98,7 @@ ugb_output tuned_write_section(ugb_section_values values, const uint8_t correlat
     put32(out + second.length - 4, 0); /* the padding at the end */
     if (values.security_first)
         put_security(out, &first, parts);
-    out = put_properties(out + second.at, &second, &values, correlation_id);
+    out = put_properties(out + second.at, &second, &values);
     put(put(put(out, label, label_length), extension, extension_length), body, body_length);
     return (ugb_output){{UGB_ACCEPTED, 0}, second.length};
 }

@@ -235,7 +235,7 @@ fn titles(side: &dyn Side) -> Check {
         let request = Request { title: &title, ..Request::default() };
         let kept = side.defaulted(&request).map(|values| values.title.len());
         agree("the title as cut", &kept, &Ok(units.min(249)))?;
-        let sent = lend(600, |out| side.send(&request, out));
+        let sent = lend(600, |out| side.send(&request, out).map(|sent| sent.length));
         let read = side.summarize(sent.bytes(), false).map(|summary| summary.label_length);
         agree("LabelLength", &read, &Ok(label_length))?;
     }

@@ -11,8 +11,8 @@ use std::thread;
 use independent::queue::Value;
 use ugbariteyo as library;
 
-use crate::side::{Answer, Defaulted, Image, Part, Parts, Reading, Refusal, Request, SectionValues};
-use crate::side::{Security, Side, Source, Summary};
+use crate::side::{Answer, Defaulted, Image, Line, Next, Part, Parts, Reading, Record, Records, Refusal};
+use crate::side::{Request, SectionValues, Security, Sent, Side, Source, Summary};
 
 /// Where the listing program lies where nothing else is said.
 const LISTING: &str = concat!(env!("CARGO_MANIFEST_DIR"), "/../../target/bin/listing");
@@ -44,25 +44,25 @@ impl Library {
 
 impl Side for Library {
     fn read<'a>(&self, input: &'a [u8], security_first: bool) -> Answer<Reading<'a>> {
-        library::read(input, security_first).map(|section| reading(&section)).map_err(refusal)
+        library::read(input, first(security_first)).map(|section| reading(&section)).map_err(refusal)
     }
     fn summarize<'a>(&self, input: &'a [u8], security_first: bool) -> Answer<Summary<'a>> {
-        library::summarize(input, security_first).map(summary).map_err(refusal)
+        library::summarize(input, first(security_first)).map(summary).map_err(refusal)
     }
     fn same_summary(&self, a: &[u8], b: &[u8], security_first: bool) -> bool {
-        library::same_summary(a, b, security_first)
+        library::same_summary(a, b, first(security_first))
     }
     fn label_shown<'a>(&self, input: &'a [u8], security_first: bool, stand_in: &'a [u8]) -> &'a [u8] {
-        library::label_shown(input, security_first, stand_in)
+        library::label_shown(input, first(security_first), stand_in)
     }
     fn support_copy(&self, input: &[u8], security_first: bool, out: &mut [u8]) -> Answer<usize> {
-        library::support_copy(input, security_first, out).map_err(refusal)
+        library::support_copy(input, first(security_first), out).map_err(refusal)
     }
     fn write_section(&self, values: &SectionValues<'_>, out: &mut [u8]) -> Answer<usize> {
         library::write_section(&section_values(values), out).map_err(refusal)
     }
     fn write_again(&self, input: &[u8], security_first: bool, out: &mut [u8]) -> Answer<usize> {
-        let section = library::read(input, security_first).map_err(refusal)?;
+        let section = library::read(input, first(security_first)).map_err(refusal)?;
         library::write_section(&library::SectionValues::from(&section), out).map_err(refusal)
     }
     fn read_image<'a>(&self, input: &'a [u8]) -> Answer<Image<'a>> {
@@ -70,13 +70,29 @@ impl Side for Library {
     }
     fn write_image(&self, format: [u8; 2], fixed: &[u8], text: &[u8], out: &mut [u8]) -> Answer<usize> {
         let format = library::QueueFormat { kind: format[0], suffix_and_flags: format[1] };
-        library::write_image(format, fixed, text, out).map_err(refusal)
+        library::write_image_parts(format, fixed, text, out).map_err(refusal)
     }
     fn defaulted<'a>(&self, values: &Request<'a>) -> Answer<Defaulted<'a>> {
         library::defaulted(&request(values)).map(defaulted).map_err(refusal)
     }
-    fn send(&self, values: &Request<'_>, out: &mut [u8]) -> Answer<usize> {
-        library::send(&request(values), out).map_err(refusal)
+    fn send(&self, values: &Request<'_>, out: &mut [u8]) -> Answer<Sent> {
+        let sent = library::send(&request(values), out).map_err(refusal)?;
+        Ok(Sent { length: sent.length, security_first: security_first(sent.first) })
+    }
+    fn next_record<'a>(&self, rest: &'a [u8]) -> Next<'a> {
+        match library::next_record(rest) {
+            library::Next::End => Next::End,
+            library::Next::Stop => Next::Stop,
+            library::Next::Found(found) => Next::Found(record(&found)),
+        }
+    }
+    fn records<'a>(&self, file: &'a [u8]) -> Records<'a> {
+        let mut records = library::records(file);
+        let mut stop = None;
+        let whole = records.by_ref().map_while(|next| next.map_err(|why| stop = Some(why)).ok());
+        let whole = whole.map(|found| record(&found)).collect();
+        assert!(records.next().is_none(), "an iterator that ended stays ended");
+        Records { whole, stop: stop.map(|stop| (stop.number, stop.place)) }
     }
     fn list(&self, file: &[u8], source: Source) -> io::Result<Vec<u8>> {
         let stdin = match source {
@@ -114,6 +130,35 @@ pub(crate) fn unnamed(content: &[u8]) -> io::Result<File> {
     file.write_all(content)?;
     file.rewind()?;
     Ok(file)
+}
+
+/// Which header stands first.
+pub fn first(security_first: bool) -> library::First {
+    if security_first {
+        library::First::SecurityHeader
+    } else {
+        library::First::PropertiesHeader
+    }
+}
+
+fn security_first(first: library::First) -> bool {
+    first == library::First::SecurityHeader
+}
+
+fn record<'a>(record: &library::Record<'a>) -> Record<'a> {
+    let line = |line: library::Line| Line {
+        class: line.message_class,
+        label: line.label_length.0,
+        extension: line.extension_size as u32,
+        body: line.message_size as u32,
+        total: line.section_length,
+    };
+    Record {
+        size: record.size,
+        security_first: security_first(record.first),
+        section: record.section,
+        answer: record.answer.map(line).map_err(refusal),
+    }
 }
 
 fn refusal(refusal: library::Refusal) -> Refusal {
@@ -191,7 +236,7 @@ fn security<'a>(header: &library::Security<'a>, parts: &mut Parts) -> Security<'
 /// The values as the library takes them.
 pub fn section_values<'a>(values: &SectionValues<'a>) -> library::SectionValues<'a> {
     library::SectionValues {
-        security_first: values.security_first,
+        first: first(values.security_first),
         security_flags: library::SecurityFlags(values.security_flags),
         sender_id: values.sender_id,
         encryption_key: values.encryption_key,

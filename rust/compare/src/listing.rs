@@ -1,13 +1,13 @@
-//! Day files listed by both sides.
+//! Day files listed by both sides, and their records.
 
 use std::io;
 
 use independent::generate::{day, long_day, Random};
-use independent::listing::{ended_by, next_record, section_length, Next, HEAD, RECORD_MOST, SECTION_MOST};
+use independent::listing::{self, ended_by, next_record, section_length, HEAD, RECORD_MOST, SECTION_MOST};
 use independent::neighbours::{self, List};
 
 use crate::report::{agree, hex, Check, Tally, OFTEN};
-use crate::side::{Sides, Source};
+use crate::side::{Next, Sides, Source};
 
 /// The short day files to each long one.
 const SHORT: usize = 600;
@@ -58,8 +58,22 @@ fn add(tally: &mut Tally, sides: Sides<'_>, file: &[u8], source: Source) -> io::
     tally.meet_if(file.len() > SEVERAL && one.len() > SEVERAL, LONG);
     survey(tally, file);
     let (one, other) = (String::from_utf8_lossy(&one), String::from_utf8_lossy(&other));
-    tally.check(compare(&one, &other), || hex(file));
+    let check = compare(&one, &other).and_then(|()| compare_records(sides, file));
+    tally.check(check, || hex(file));
     Ok(())
+}
+
+/// Compares the records of a file: all of them, and what stands at the first byte of each and behind the last.
+fn compare_records(sides: Sides<'_>, file: &[u8]) -> Check {
+    let records = sides.both("the records", |side| side.records(file))?;
+    let mut rest = file;
+    for record in records.whole {
+        let next = sides.both("the next record", |side| side.next_record(rest))?;
+        agree("the record", &next, &Next::Found(record))?;
+        rest = &rest[record.size..];
+    }
+    let last = sides.both("what is behind the records", |side| side.next_record(rest))?;
+    agree("what is behind the records", &last, &if records.stop.is_some() { Next::Stop } else { Next::End })
 }
 
 /// Counts a file's records, and what it meets. A buffer is taken to be filled up whenever it holds less than a largest
@@ -67,7 +81,7 @@ fn add(tally: &mut Tally, sides: Sides<'_>, file: &[u8], source: Source) -> io::
 fn survey(tally: &mut Tally, file: &[u8]) {
     let mut rest = file;
     let mut buffered = BUFFER;
-    while let Next::Record { size, answer } = next_record(rest) {
+    while let listing::Next::Record { size, answer } = next_record(rest) {
         let at = file.len() - rest.len();
         tally.count(answer.map(|_| ()).map_err(|refusal| refusal.number));
         tally.meet_if((1..HEAD).contains(&(buffered - at)), HEAD_AT_END);

@@ -15,22 +15,29 @@ pub fn run(sides: Sides<'_>, cases: u64, r: &mut Random) -> Tally {
     for _ in 0..cases {
         let owned = request(r);
         let check = compare(sides, &owned);
-        let answer = send(sides.one, &owned.as_request(), owned.room).answer;
-        tally.add(&answer, check, || values_in_hex(&owned));
+        let (sent, _) = send(sides.one, &owned.as_request(), owned.room);
+        tally.add(&sent.answer, check, || values_in_hex(&owned));
         tally.meet_neighbours(neighbours::sending(&owned.as_request(), owned.room));
     }
     tally
 }
 
-fn send(side: &dyn Side, request: &Request<'_>, room: usize) -> Written {
-    lend(room, |out| side.send(request, out))
+/// What a side sends, and whether it says that a SecurityHeader stands first in it.
+fn send(side: &dyn Side, request: &Request<'_>, room: usize) -> (Written, bool) {
+    let mut security_first = false;
+    let written = lend(room, |out| {
+        let sent = side.send(request, out)?;
+        security_first = sent.security_first;
+        Ok(sent.length)
+    });
+    (written, security_first)
 }
 
 /// Defaults and sends the request with both sides; what the one sent has to read back as the defaulted values.
 fn compare(sides: Sides<'_>, owned: &OwnedRequest) -> Check {
     let request = owned.as_request();
     let defaulted = sides.both("the defaulted values", |side| side.defaulted(&request))?;
-    let sent = sides.both("the section sent", |side| send(side, &request, owned.room))?;
+    let (sent, _) = sides.both("the section sent", |side| send(side, &request, owned.room))?;
     sent.rest_stays()?;
     let values = match defaulted {
         Ok(values) => values,
@@ -40,12 +47,14 @@ fn compare(sides: Sides<'_>, owned: &OwnedRequest) -> Check {
     let length = carried.length();
     let wanted = if owned.room < length { Err(SHORT) } else { Ok(length) };
     agree("the length of the section sent", &sent.answer, &wanted)?;
-    let exact = sides.both("the section sent in its own length", |side| send(side, &request, length))?;
+    let (exact, security_first) =
+        sides.both("the section sent in its own length", |side| send(side, &request, length))?;
     agree("its own length is room enough", &exact.answer, &Ok(length))?;
-    let short = sides.both("the section sent a byte short", |side| send(side, &request, length - 1))?;
+    agree("whether a SecurityHeader stands first", &security_first, &carried.security_first)?;
+    let (short, _) = sides.both("the section sent a byte short", |side| send(side, &request, length - 1))?;
     short.is("the section sent a byte short", &Err(SHORT))?;
     let values = carried.values(&values, &request);
-    let reading = sides.one.read(&exact.out, values.security_first);
+    let reading = sides.one.read(&exact.out, security_first);
     agree("what is sent reads back", &reading.map(|reading| read_values(&reading)), &Ok(values))
 }
 

@@ -2,10 +2,10 @@
 
 use std::io;
 
-use independent::{queue, request};
+use independent::{listing, queue, request};
 
-use crate::side::{part_of, Answer, Defaulted, Image, Reading, Request, Section, SectionValues};
-use crate::side::{Security, Side, Source, Summary};
+use crate::side::{part_of, Answer, Defaulted, Image, Next, Reading, Record, Request, Section};
+use crate::side::{SectionValues, Security, Sent, Side, Source, Summary};
 
 /// The independent reader and writer.
 pub struct Independent;
@@ -42,12 +42,22 @@ impl Side for Independent {
     fn defaulted<'a>(&self, request: &Request<'a>) -> Answer<Defaulted<'a>> {
         request::defaulted(request).map(defaulted)
     }
-    fn send(&self, request: &Request<'_>, out: &mut [u8]) -> Answer<usize> {
-        request::send(request, out)
+    fn send(&self, request: &Request<'_>, out: &mut [u8]) -> Answer<Sent> {
+        sent(request, request::send(request, out))
+    }
+    fn next_record<'a>(&self, rest: &'a [u8]) -> Next<'a> {
+        match listing::next_record(rest) {
+            listing::Next::End => Next::End,
+            listing::Next::Stop => Next::Stop,
+            listing::Next::Record { size, answer } => {
+                let (head, section) = rest[..size].split_at(listing::HEAD);
+                Next::Found(Record { size, security_first: head[2] == 1, section, answer })
+            }
+        }
     }
     fn list(&self, file: &[u8], _: Source) -> io::Result<Vec<u8>> {
         let mut lines = Vec::new();
-        independent::listing::list(file, &mut lines)?;
+        listing::list(file, &mut lines)?;
         Ok(lines)
     }
 }
@@ -113,6 +123,12 @@ fn security<'a>(header: &independent::Security<'a>, section: &Section<'a>) -> Se
         provider_type: header.provider_type,
         provider_name: header.provider_name,
     }
+}
+
+/// A request's section of this length, and whether a SecurityHeader stands first by the independent library.
+pub fn sent(request: &Request<'_>, length: Answer<usize>) -> Answer<Sent> {
+    let (length, values) = (length?, request::defaulted(request)?);
+    Ok(Sent { length, security_first: values.security_first() })
 }
 
 /// The defaulted values by the independent library.

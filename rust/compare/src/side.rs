@@ -3,6 +3,7 @@
 use std::fmt::Debug;
 use std::io;
 
+pub use independent::listing::Line;
 pub use independent::queue::Image;
 pub use independent::request::Request;
 pub use independent::{Part, Parts, Refusal, Section, SectionValues};
@@ -124,6 +125,48 @@ pub struct Defaulted<'a> {
     pub signature: &'a [u8],
 }
 
+/// A section that was sent.
+#[derive(Debug, Clone, Copy, PartialEq, Eq)]
+pub struct Sent {
+    /// Its length.
+    pub length: usize,
+    /// Whether a SecurityHeader stands first.
+    pub security_first: bool,
+}
+
+/// A record of a day file.
+#[derive(Debug, Clone, Copy, PartialEq, Eq)]
+pub struct Record<'a> {
+    /// Its bytes, head and section.
+    pub size: usize,
+    /// Whether a SecurityHeader stands first in its section.
+    pub security_first: bool,
+    /// The bytes behind its head.
+    pub section: &'a [u8],
+    /// What its line says.
+    pub answer: Answer<Line>,
+}
+
+/// What stands at the first byte of the rest of a day file.
+#[derive(Debug, Clone, Copy, PartialEq, Eq)]
+pub enum Next<'a> {
+    /// Nothing: the file ends.
+    End,
+    /// A record that is wrong or cut.
+    Stop,
+    /// A record.
+    Found(Record<'a>),
+}
+
+/// The records of a day file.
+#[derive(Debug, PartialEq, Eq)]
+pub struct Records<'a> {
+    /// Those before the end, or before one that is wrong or cut.
+    pub whole: Vec<Record<'a>>,
+    /// The number of the one that is wrong or cut, and where it begins.
+    pub stop: Option<(usize, usize)>,
+}
+
 /// A library: everything that it can be asked.
 pub trait Side {
     /// The full reading of a section.
@@ -147,7 +190,23 @@ pub trait Side {
     /// The defaulted values of a request.
     fn defaulted<'a>(&self, request: &Request<'a>) -> Answer<Defaulted<'a>>;
     /// The section of a request.
-    fn send(&self, request: &Request<'_>, out: &mut [u8]) -> Answer<usize>;
+    fn send(&self, request: &Request<'_>, out: &mut [u8]) -> Answer<Sent>;
+    /// The record at the first byte of the rest of a day file.
+    fn next_record<'a>(&self, rest: &'a [u8]) -> Next<'a>;
+    /// The records of a day file.
+    fn records<'a>(&self, file: &'a [u8]) -> Records<'a> {
+        let (mut whole, mut place) = (Vec::new(), 0);
+        loop {
+            match self.next_record(&file[place..]) {
+                Next::End => return Records { whole, stop: None },
+                Next::Stop => return Records { stop: Some((whole.len(), place)), whole },
+                Next::Found(record) => {
+                    place += record.size;
+                    whole.push(record);
+                }
+            }
+        }
+    }
     /// The listing of a day file.
     fn list(&self, file: &[u8], source: Source) -> io::Result<Vec<u8>>;
 }

@@ -4,9 +4,9 @@ use std::io;
 
 use compare::library::Library;
 use compare::report::Tally;
-use compare::second::{defaulted, reading, summary, Independent};
-use compare::side::{Answer, Defaulted, Image, Reading, Request, SectionValues, Side, Sides};
-use compare::side::{Source, Summary};
+use compare::second::{defaulted, reading, sent, summary, Independent};
+use compare::side::{Answer, Defaulted, Image, Line, Next, Reading, Record, Records, Request};
+use compare::side::{SectionValues, Sent, Side, Sides, Source, Summary};
 use compare::{examples, listing, properties, queues, requests, sections, sweeps, writing};
 use independent::generate::Random;
 use independent::neighbours::{List, Neighbours};
@@ -36,8 +36,20 @@ enum Fault {
     Defaulted,
     /// Privacy 2 is copied.
     Send,
+    /// No section is said to begin with a SecurityHeader.
+    SentFirst,
     /// The label's bytes are counted for its units.
     List,
+    /// The same in a record.
+    RecordLine,
+    /// A record's section is cut to what was read of it.
+    RecordSection,
+    /// A head's byte for security is not looked at.
+    RecordFirst,
+    /// A record that is wrong or cut is taken for the file's end.
+    RecordStop,
+    /// The record that is wrong or cut is counted with those before it.
+    StopNumber,
     /// Every refusal changes a lent byte.
     Refusal,
     /// Two neighbouring steps of a list are exchanged.
@@ -140,13 +152,30 @@ impl Side for Planted {
             _ => Independent.defaulted(request),
         }
     }
-    fn send(&self, request: &Request<'_>, out: &mut [u8]) -> Answer<usize> {
-        let answer = match self.0 {
+    fn send(&self, request: &Request<'_>, out: &mut [u8]) -> Answer<Sent> {
+        let length = match self.0 {
             Fault::Send => planted::send(request, out),
             Fault::Exchanged(List::Sending, pair) => planted::send_exchanged(pair.at, request, out),
-            _ => Independent.send(request, out),
+            _ => independent::request::send(request, out),
         };
-        self.written(answer, out)
+        let answer = sent(request, self.written(length, out))?;
+        Ok(if self.0 == Fault::SentFirst { Sent { security_first: false, ..answer } } else { answer })
+    }
+    fn next_record<'a>(&self, rest: &'a [u8]) -> Next<'a> {
+        match (self.0, Independent.next_record(rest)) {
+            (Fault::RecordStop, Next::Stop) => Next::End,
+            (fault, Next::Found(record)) => Next::Found(wrong_record(fault, record)),
+            (_, next) => next,
+        }
+    }
+    fn records<'a>(&self, file: &'a [u8]) -> Records<'a> {
+        let records = Independent.records(file);
+        match self.0 {
+            Fault::StopNumber => {
+                Records { stop: records.stop.map(|(number, place)| (number + 1, place)), ..records }
+            }
+            _ => records,
+        }
     }
     fn list(&self, file: &[u8], source: Source) -> io::Result<Vec<u8>> {
         let mut lines = Vec::new();
@@ -157,6 +186,18 @@ impl Side for Planted {
             _ => lines = Independent.list(file, source)?,
         }
         Ok(lines)
+    }
+}
+
+/// The record with the fault in it.
+fn wrong_record(fault: Fault, record: Record<'_>) -> Record<'_> {
+    match (fault, record.answer) {
+        (Fault::RecordLine, Ok(line)) => {
+            Record { answer: Ok(Line { label: 2 * line.label, ..line }), ..record }
+        }
+        (Fault::RecordSection, Ok(line)) => Record { section: &record.section[..line.total], ..record },
+        (Fault::RecordFirst, _) => Record { security_first: false, ..record },
+        _ => record,
     }
 }
 
@@ -219,13 +260,15 @@ fn queue_values_written() {
 
 #[test]
 fn requests_sent() {
-    let faults = [vec![Fault::Defaulted, Fault::Send, Fault::Refusal], exchanges(List::Sending)].concat();
+    let faults = vec![Fault::Defaulted, Fault::Send, Fault::SentFirst, Fault::Refusal];
+    let faults = [faults, exchanges(List::Sending)].concat();
     finds(&faults, |sides| requests::run(sides, CASES, &mut Random::new(7)));
 }
 
 #[test]
 fn day_files_listed() {
-    let mut faults = vec![Fault::List];
+    use Fault::{List as Listed, RecordFirst, RecordLine, RecordSection, RecordStop, StopNumber};
+    let mut faults = vec![Listed, RecordLine, RecordSection, RecordFirst, RecordStop, StopNumber];
     faults.append(&mut exchanges(List::Record));
     // Tests of a head answer alike: that each of them counts shows where it is left out.
     faults.extend(planted::HEAD_TESTS.map(Fault::LeftOut));
@@ -249,6 +292,7 @@ fn the_same_fault_on_both_sides() {
         (Fault::WriteSection, writing),
         (Fault::WriteImage, reading_images),
         (Fault::Send, requests),
+        (Fault::SentFirst, requests),
         (Fault::Refusal, requests),
     ] {
         assert_eq!(run(Sides { one: &Independent, other: &Independent }).differences(), 0);

@@ -11,17 +11,17 @@ use std::env;
 use std::error::Error;
 use std::fs;
 
-use ugbariteyo::{read, PropertiesFlags, Reading};
+use ugbariteyo::{read, First, PropertiesFlags, Reading};
 
 fn main() -> Result<(), Box<dyn Error>> {
     let args: Vec<String> = env::args().skip(1).collect();
-    let (file, security_first) = match args.iter().map(String::as_str).collect::<Vec<_>>()[..] {
-        ["security", file] => (file, true),
-        [file] => (file, false),
+    let (file, first) = match args.iter().map(String::as_str).collect::<Vec<_>>()[..] {
+        ["security", file] => (file, First::SecurityHeader),
+        [file] => (file, First::PropertiesHeader),
         _ => return Err("usage: read_section [security] FILE".into()),
     };
     let input = fs::read(file)?;
-    match read(&input, security_first) {
+    match read(&input, first) {
         Ok(section) => print_section(&section),
         Err(refusal) => println!("{refusal}"),
     }
@@ -30,7 +30,7 @@ fn main() -> Result<(), Box<dyn Error>> {
 
 fn print_section(section: &Reading<'_>) {
     println!("section length        {}", section.section_length());
-    if section.security_first() {
+    if section.first() == First::SecurityHeader {
         let flags = section.security_flags();
         println!("security flags        {:#06x}", flags.0);
         println!("  sender kind         {}", flags.sender_kind());

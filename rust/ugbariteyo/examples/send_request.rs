@@ -24,8 +24,8 @@ fn main() -> Result<(), Box<dyn Error>> {
     }
     println!("title           {:?}", String::from_utf16_lossy(properties.title));
 
-    let bytes = send_vec(&request)?;
-    let section = read(&bytes, false)?;
+    let (bytes, first) = send_vec(&request)?;
+    let section = read(&bytes, first)?;
     println!("section length  {}", section.section_length());
     println!("class           {:#06x}", section.message_class());
     println!("label           {} units, {:?}", section.label_length().0, section.label_text());

@@ -1,9 +1,9 @@
 //! Message-queue sections (an optional SecurityHeader and a MessagePropertiesHeader), their support copies,
-//! queue formats and send requests: a safe interface to the proved library.
+//! queue formats, send requests and the records of a day's file: a safe interface to the proved library.
 //!
 //! Every call answers for every input: the answer, or a [`Refusal`] with its number and place. Nothing has to
-//! be checked beforehand, a refusal leaves a lent output as it stood, and what is read is borrowed from the
-//! input.
+//! be checked beforehand, no call panics, a refusal leaves a lent output as it stood, and what is read is
+//! borrowed from the input.
 //!
 //! The functions behind this crate are proved to answer as the exact rules say. What is not proved is this
 //! crate itself: it lends the slices, and takes the parts out of the input by their places.
@@ -11,20 +11,20 @@
 //! # Reading a section
 //!
 //! ```
-//! use ugbariteyo::{read, Kind};
+//! use ugbariteyo::{read, First, Kind};
 //!
 //! let mut input = [0; 60];
 //! input[32] = 3; // MessageSize
 //! input[36] = 3; // AllocationBodySize
 //! input[56..59].copy_from_slice(b"two");
 //!
-//! let section = read(&input, false)?;
+//! let section = read(&input, First::PropertiesHeader)?;
 //! assert_eq!(section.body(), b"two");
 //! assert_eq!(section.section_length(), 60);
 //!
-//! let refusal = read(&input[..59], false).unwrap_err();
+//! let refusal = read(&input[..59], First::PropertiesHeader).unwrap_err();
 //! assert_eq!(refusal.kind(), Some(Kind::InputShort));
-//! assert_eq!(refusal.to_string(), "refused with 1 at 0: input short");
+//! assert_eq!(refusal.to_string(), "refused with 1 at 0: input ends before the section does");
 //! # Ok::<(), ugbariteyo::Refusal>(())
 //! ```
 //!
@@ -33,44 +33,66 @@
 //! The copy holds what is judged and nothing private; it reads to the same summary.
 //!
 //! ```
-//! use ugbariteyo::{same_summary, support_copy_vec};
+//! use ugbariteyo::{same_summary, support_copy_vec, First};
 //!
 //! let mut input = [0; 60];
 //! input[32] = 3;
 //! input[36] = 3;
 //! input[56..59].copy_from_slice(b"two");
 //!
-//! let copy = support_copy_vec(&input, false)?;
+//! let copy = support_copy_vec(&input, First::PropertiesHeader)?;
 //! assert_eq!(copy[56..59], [0; 3]);
-//! assert!(same_summary(&input, &copy, false));
+//! assert!(same_summary(&input, &copy, First::PropertiesHeader));
 //! # Ok::<(), ugbariteyo::Refusal>(())
+//! ```
+//!
+//! # The records of a day's file
+//!
+//! ```no_run
+//! for record in ugbariteyo::records(&std::fs::read("day.bin")?) {
+//!     let record = record?; // a wrong or cut record stops
+//!     match record.answer {
+//!         Ok(line) => println!("class {}, {} bytes", line.message_class, line.section_length),
+//!         Err(refusal) => println!("{refusal}"),
+//!     }
+//! }
+//! # Ok::<(), Box<dyn std::error::Error>>(())
 //! ```
 //!
 //! # Building
 //!
 //! The proved library is `libugbariteyo.a`, for x86-64 Linux. `build.rs` links it from the directory in the variable
-//! `UGBARITEYO_LIB_DIR`, else from the repository's `target/staticlib`; where it is not there yet, it is made
-//! with `rt staticlib ugbariteyo`. An archive that is there is taken as it is: after a change of the proved crates,
-//! run that command again.
+//! `UGBARITEYO_LIB_DIR`, else from the repository's `target/lib`. Where it is not there yet, the first build
+//! makes it with the script `archive`, which takes minutes and says so on the terminal. An archive that is there
+//! is taken as it is: after a change of the proved crates, run that command again.
 
 #![deny(missing_docs)]
 #![deny(unsafe_code)]
+#![warn(clippy::missing_errors_doc)]
 
 mod copy;
 mod ffi;
 mod flags;
+mod part;
 mod queue;
+mod reading;
+mod record;
 mod refusal;
 mod request;
 mod section;
+mod summary;
 mod text;
 mod write;
 
 pub use copy::{support_copy, support_copy_vec};
 pub use flags::{PropertiesFlags, SecurityFlags};
-pub use queue::{read_image, write_image, Image, QueueFormat, Value};
+pub use part::Part;
+pub use queue::{read_image, write_image, write_image_parts, Image, QueueFormat, Value};
+pub use reading::Reading;
+pub use record::{next_record, records, Line, Next, Record, Records, Stop};
 pub use refusal::{Kind, Refusal};
-pub use request::{defaulted, send, send_vec, Body, Handling, Properties, Request, Sender};
-pub use section::{label_shown, read, same_summary, summarize, Part, Reading, Security, Summary, LIMIT};
+pub use request::{defaulted, send, send_vec, Body, Handling, Properties, Request, Sender, Sent};
+pub use section::{label_shown, read, same_summary, summarize, First, LIMIT};
+pub use summary::{Security, Summary};
 pub use text::{text_bytes, Text, Units};
 pub use write::{write_section, write_section_vec, SectionValues};

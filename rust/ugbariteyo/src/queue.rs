@@ -1,7 +1,7 @@
 //! Queue formats: the type with its numbers, and images read and written.
 
+use crate::part::{all_of, found};
 use crate::refusal::Refusal;
-use crate::section::Part;
 use crate::text::Text;
 use crate::{ffi, ffi::accepted};
 
@@ -52,19 +52,38 @@ impl QueueFormat {
     /// A system queue.
     pub const FLAG_SYSTEM: u8 = 0x80;
 
-    /// The format of this type, with these flags and this suffix type.
-    pub const fn new(kind: u8, flags: u8, suffix: u8) -> Self {
-        Self { kind, suffix_and_flags: flags & 0xF0 | suffix & 0x0F }
+    /// The format of this type, with these flags and this suffix type, or `None` where one of them does not fit
+    /// into its nibble. Whether the three go together is judged when the image is written.
+    ///
+    /// ```
+    /// use ugbariteyo::QueueFormat;
+    ///
+    /// let machine = QueueFormat::TYPE_MACHINE;
+    /// let journal = QueueFormat::new(machine, QueueFormat::FLAG_SYSTEM, QueueFormat::SUFFIX_TYPE_JOURNAL);
+    /// assert_eq!(journal, Some(QueueFormat { kind: 0x04, suffix_and_flags: 0x81 }));
+    /// assert_eq!(QueueFormat::new(machine, QueueFormat::FLAG_SYSTEM, 0x11), None);
+    /// ```
+    pub const fn new(kind: u8, flags: u8, suffix: u8) -> Option<Self> {
+        let fits = flags & Self::SUFFIX == 0 && suffix & Self::FLAGS == 0;
+        if fits {
+            Some(Self { kind, suffix_and_flags: flags | suffix })
+        } else {
+            None
+        }
     }
+
+    /// The nibble of the suffix type, and that of the flags.
+    const SUFFIX: u8 = 0x0F;
+    const FLAGS: u8 = 0xF0;
 
     /// The suffix type: the low nibble.
     pub const fn suffix(self) -> u8 {
-        self.suffix_and_flags & 0x0F
+        self.suffix_and_flags & Self::SUFFIX
     }
 
     /// The flags: the high nibble, in its place.
     pub const fn flags(self) -> u8 {
-        self.suffix_and_flags & 0xF0
+        self.suffix_and_flags & Self::FLAGS
     }
 }
 
@@ -86,7 +105,7 @@ pub enum Value<'a> {
 }
 
 impl<'a> Value<'a> {
-    /// The bytes of the GUID, OBJECTID or MULTICAST_ID, as [`write_image`] takes them.
+    /// The bytes of the GUID, OBJECTID or MULTICAST_ID; empty where the type has none.
     #[inline]
     pub fn fixed(self) -> &'a [u8] {
         match self {
@@ -107,7 +126,7 @@ impl<'a> Value<'a> {
     }
 }
 
-/// An image that was read: a queue format and its value.
+/// What an image holds: a queue format and its value.
 #[derive(Debug, Clone, Copy, PartialEq, Eq, Hash)]
 pub struct Image<'a> {
     /// The type, suffix and flags.
@@ -117,6 +136,10 @@ pub struct Image<'a> {
 }
 
 /// Reads `input`, which is exactly one image.
+///
+/// # Errors
+///
+/// 1 where `input` has less than 4 bytes, then 30 to 33.
 ///
 /// ```
 /// use ugbariteyo::{read_image, QueueFormat, Value};
@@ -131,34 +154,55 @@ pub fn read_image(input: &[u8]) -> Result<Image<'_>, Refusal> {
     let answer = ffi::read_image(input);
     accepted(answer.refusal)?;
     let format = QueueFormat { kind: answer.format.kind, suffix_and_flags: answer.format.suffix_and_flags };
-    let fixed = Part::from(answer.fixed).of(input);
-    let text = Text::new(Part::from(answer.text).of(input));
+    let fixed = found(answer.fixed, input);
+    let text = Text::new(found(answer.text, input));
     let value = match format.kind {
         QueueFormat::TYPE_PUBLIC | QueueFormat::TYPE_MACHINE | QueueFormat::TYPE_CONNECTOR => {
-            Value::Guid(id(fixed))
+            Value::Guid(all_of(fixed))
         }
-        QueueFormat::TYPE_PRIVATE => Value::ObjectId(id(fixed)),
-        QueueFormat::TYPE_MULTICAST => Value::MulticastId(id(fixed)),
+        QueueFormat::TYPE_PRIVATE => Value::ObjectId(all_of(fixed)),
+        QueueFormat::TYPE_MULTICAST => Value::MulticastId(all_of(fixed)),
         QueueFormat::TYPE_DIRECT | QueueFormat::TYPE_SUBQUEUE => Value::Text(text),
-        QueueFormat::TYPE_DL => Value::GuidAndText(id(fixed), text),
+        QueueFormat::TYPE_DL => Value::GuidAndText(all_of(fixed), text),
         _ => Value::Nothing,
     };
     Ok(Image { format, value })
 }
 
-/// The fixed bytes of an accepted value, which are as many as its type has.
+/// Writes an image to the front of `out`, and gives its length. A string has its null. Bytes of `out` behind the
+/// image stay as they were.
+///
+/// # Errors
+///
+/// 30 to 33, then 13 where `out` is shorter than the image. Nothing is written then.
+///
+/// ```
+/// use ugbariteyo::{read_image, write_image};
+///
+/// let bytes = b"\x03\x00\0\0q\0\0\0";
+/// let mut out = [0; 8];
+/// assert_eq!(write_image(&read_image(bytes)?, &mut out), Ok(8));
+/// assert_eq!(&out, bytes);
+/// # Ok::<(), ugbariteyo::Refusal>(())
+/// ```
 #[inline]
-fn id<const N: usize>(fixed: &[u8]) -> &[u8; N] {
-    fixed.try_into().expect("an accepted value has its type's length")
+pub fn write_image(image: &Image<'_>, out: &mut [u8]) -> Result<usize, Refusal> {
+    write_image_parts(image.format, image.value.fixed(), image.value.text().bytes(), out)
 }
 
-/// Writes the image of a queue format to the front of `out`, and gives its length. `fixed` and `text` are
-/// empty where the type has none; a string has its null.
+/// Writes the image of a format, with the two parts of its value as they are: the bytes of a GUID, OBJECTID or
+/// MULTICAST_ID, and a string with its null. Each is empty where the type has none.
 ///
-/// Refused with 30 to 33, then with 13 where `out` is shorter than the image. A refusal writes nothing, and
-/// bytes of `out` behind the image stay as they were.
+/// # Errors
+///
+/// As of [`write_image`].
 #[inline]
-pub fn write_image(format: QueueFormat, fixed: &[u8], text: &[u8], out: &mut [u8]) -> Result<usize, Refusal> {
+pub fn write_image_parts(
+    format: QueueFormat,
+    fixed: &[u8],
+    text: &[u8],
+    out: &mut [u8],
+) -> Result<usize, Refusal> {
     let format = ffi::QueueFormat { kind: format.kind, suffix_and_flags: format.suffix_and_flags };
     ffi::written(ffi::write_image(format, fixed, text, out))
 }

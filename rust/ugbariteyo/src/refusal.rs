@@ -34,60 +34,61 @@ impl fmt::Display for Refusal {
 impl Error for Refusal {}
 
 macro_rules! kinds {
-    ($($name:ident = $number:literal, $meaning:literal;)*) => {
+    ($($name:ident = $number:literal, $text:literal;)*) => {
         /// The refusals by name.
         #[derive(Debug, Clone, Copy, PartialEq, Eq, Hash)]
         #[non_exhaustive]
         #[repr(u32)]
         pub enum Kind {
-            $(#[doc = concat!($number, ": ", $meaning, ".")] $name = $number,)*
+            $(#[doc = concat!($number, ": ", $text, ".")] $name = $number,)*
         }
 
         impl Kind {
             /// Every refusal, by number.
             pub const ALL: [Self; [$($number),*].len()] = [$(Self::$name),*];
 
-            /// What the number means.
-            pub fn meaning(self) -> &'static str {
+            /// The rule that was broken.
+            pub fn text(self) -> &'static str {
                 match self {
-                    $(Self::$name => $meaning,)*
+                    $(Self::$name => $text,)*
                 }
             }
         }
     };
 }
 
+// The names and texts of `include/ugbariteyo.h`.
 kinds! {
-    InputShort = 1, "input short";
-    SenderKind = 2, "sender kind";
-    AuOrAs = 3, "AU or AS";
-    EmptyOrDpClear = 4, "empty or DP clear";
-    CertificateSize = 5, "certificate size";
-    Identity = 6, "identity";
-    Provider = 7, "provider";
-    AboveTheLimit = 8, "above the limit";
-    LabelLength = 9, "label length";
-    Class = 10, "class";
-    Allocation = 11, "allocation";
-    Label = 12, "label";
-    OutputShort = 13, "output short";
-    RequestRange = 20, "priority, trace, delivery, acknowledge or auditing of a request";
-    RequestPrivacy = 21, "privacy of a request";
-    DirectQueuePrivacy = 22, "direct queue with privacy";
+    InputShort = 1, "input ends before the section does";
+    SenderKind = 2, "ST above 2";
+    AuOrAs = 3, "AU or AS not zero";
+    EmptyOrDpClear = 4, "all five sizes zero, or DP clear";
+    CertificateSize = 5, "SenderCertSize above 65,535";
+    Identity = 6, "SenderIdSize or identity not as ST asks";
+    Provider = 7, "ProviderInfoSize or provider info not as DE and signature ask";
+    AboveTheLimit = 8, "longer than 4,194,304 bytes";
+    LabelLength = 9, "LabelLength above 250, or a label of an odd number of bytes";
+    Class = 10, "MessageClass not listed";
+    Allocation = 11, "AllocationBodySize below MessageSize or above 4,194,304";
+    Label = 12, "label in which not only the last unit is zero";
+    OutputShort = 13, "output too short";
+    ValueOutOfRange = 20, "priority above 7, trace or delivery above 1, acknowledge above 15, or auditing above 3";
+    Privacy = 21, "privacy not 0, 1 or 2";
+    PrivacyOnADirectQueue = 22, "direct queue with privacy not 0";
     AlgorithmAbsent = 23, "privacy present, algorithm absent";
     HashAbsent = 24, "signature bytes given, hash absent";
-    RequestIdentity = 25, "sender kind or identity of a request";
-    RequestProvider = 26, "provider type or name of a signed request";
-    SplitNumber = 27, "split number";
+    RequestIdentity = 25, "sender kind above 2, or identity not as its kind asks";
+    RequestProvider = 26, "default provider without type 1, or another provider without a name of 1 to 1,024 units";
+    SplitNumber = 27, "split number minus name length below 1 or above the signature bytes given";
     PartTooLarge = 28, "key, signature or certificate above 65,535 bytes";
-    QueueType = 30, "queue type";
-    QueueSuffix = 31, "suffix and flags with that queue type";
-    QueueValue = 32, "length of the queue's value";
-    QueueString = 33, "string of the queue's value";
+    QueueType = 30, "queue type above 8";
+    QueueSuffix = 31, "suffix and flags do not go with the queue type";
+    QueueValue = 32, "value length wrong for the queue type";
+    QueueString = 33, "string not ended by its only zero unit, too short or above 1,024 units";
 }
 
 impl fmt::Display for Kind {
     fn fmt(&self, f: &mut fmt::Formatter<'_>) -> fmt::Result {
-        f.write_str(self.meaning())
+        f.write_str(self.text())
     }
 }

@@ -2,14 +2,17 @@
 
 use std::fmt;
 
+use crate::part::{found, kept};
 use crate::refusal::Refusal;
-use crate::section::{Part, LIMIT};
+use crate::section::{First, LIMIT};
 use crate::{ffi, ffi::accepted};
 
 /// A send request. A number that is `None` and a part that is empty are absent.
 ///
 /// Its `Debug` shows no private part.
-#[derive(Clone, Copy, PartialEq, Eq, Default)]
+// The numbers that may be absent stand first and lie as in C, so that a call takes them as they are.
+#[derive(Clone, Copy, PartialEq, Eq, Hash, Default)]
+#[repr(C)]
 pub struct Request<'a> {
     /// Priority, 0 to 7.
     pub priority: Option<u32>,
@@ -83,7 +86,7 @@ impl Request<'_> {
 }
 
 /// The body of a request.
-#[derive(Clone, Copy, PartialEq, Eq, Default)]
+#[derive(Clone, Copy, PartialEq, Eq, Hash, Default)]
 pub struct Body<'a> {
     /// Its bytes.
     pub bytes: &'a [u8],
@@ -130,7 +133,7 @@ impl fmt::Debug for Request<'_> {
 }
 
 /// What no section carries.
-#[derive(Debug, Clone, Copy, PartialEq, Eq)]
+#[derive(Debug, Clone, Copy, PartialEq, Eq, Hash)]
 #[non_exhaustive]
 pub struct Handling {
     /// Priority.
@@ -152,7 +155,7 @@ pub struct Handling {
 }
 
 /// What only a SecurityHeader carries.
-#[derive(Debug, Clone, Copy, PartialEq, Eq)]
+#[derive(Debug, Clone, Copy, PartialEq, Eq, Hash)]
 #[non_exhaustive]
 pub struct Sender {
     /// The sender kind.
@@ -164,7 +167,7 @@ pub struct Sender {
 }
 
 /// The defaulted properties of a request. Its `Debug` shows no private part.
-#[derive(Clone, Copy, PartialEq, Eq)]
+#[derive(Clone, Copy, PartialEq, Eq, Hash)]
 #[non_exhaustive]
 pub struct Properties<'a> {
     /// What no section carries.
@@ -231,54 +234,9 @@ impl<'a> Properties<'a> {
             message_size: properties.message_size,
             allocation_body_size: properties.allocation_body_size,
             correlation_id: answer.correlation_id,
-            title: &request.title[..properties.title as usize],
-            signature: Part::from(properties.signature).of(request.signature),
+            title: kept(properties.title, request.title),
+            signature: found(properties.signature, request.signature),
         }
-    }
-}
-
-/// The request's numbers, each with a mark of whether it is there.
-#[inline]
-fn numbers(request: &Request<'_>) -> ffi::Request {
-    ffi::Request {
-        priority: request.priority.into(),
-        trace: request.trace.into(),
-        delivery: request.delivery.into(),
-        auditing: request.auditing.into(),
-        message_class: request.message_class.into(),
-        acknowledge: request.acknowledge.into(),
-        application_tag: request.application_tag.into(),
-        privacy_level: request.privacy_level.into(),
-        hash_algorithm: request.hash_algorithm.into(),
-        encryption_algorithm: request.encryption_algorithm.into(),
-        body_type: request.body_type.into(),
-        sender_kind: request.sender_kind.into(),
-        provider_type: request.provider_type.into(),
-        split_number: request.split_number.into(),
-        provider_name_length: request.provider_name_length,
-        correlation_given: request.correlation_id.is_some(),
-        body_given: request.body.is_some(),
-        allocation_body_size: request.body.map_or(0, |body| body.allocation),
-        transaction: request.transaction,
-        direct_queue: request.direct_queue,
-        default_provider: request.default_provider,
-        encryption: request.encryption,
-    }
-}
-
-/// What the request lends beside its numbers.
-#[inline]
-fn parts<'a>(request: &'a Request<'a>) -> ffi::RequestParts<'a> {
-    ffi::RequestParts {
-        correlation_id: request.correlation_id.as_ref().unwrap_or(&[0; 20]),
-        title: request.title,
-        sender_id: request.sender_id,
-        encryption_key: request.encryption_key,
-        signature: request.signature,
-        sender_cert: request.sender_cert,
-        provider_name: request.provider_name,
-        extension: request.extension,
-        body: request.body.unwrap_or_default().bytes,
     }
 }
 
@@ -303,7 +261,9 @@ impl fmt::Debug for Properties<'_> {
 
 /// The defaulted properties of a request: each absent value has its default, title and signature are cut.
 ///
-/// Refused by the steps of a request in their order: with 20 and 10, 21 to 28, then 11 and 8. The place is 0.
+/// # Errors
+///
+/// By the steps of a request in their order: 20 and 10, 21 to 28, then 11 and 8. The place is 0.
 ///
 /// ```
 /// use ugbariteyo::{defaulted, Request};
@@ -315,34 +275,51 @@ impl fmt::Debug for Properties<'_> {
 /// ```
 #[inline]
 pub fn defaulted<'a>(request: &Request<'a>) -> Result<Properties<'a>, Refusal> {
-    let answer = ffi::defaulted(numbers(request), parts(request));
+    let answer = ffi::defaulted(request);
     accepted(answer.refusal)?;
     Ok(Properties::new(&answer, request))
 }
 
-/// Writes the section of a request to the front of `out`, and gives its length.
-///
-/// Refused as [`defaulted`] is, then with 13 where `out` is shorter than the section. A refusal writes
-/// nothing, and bytes of `out` behind the section stay as they were.
-#[inline]
-pub fn send(request: &Request<'_>, out: &mut [u8]) -> Result<usize, Refusal> {
-    ffi::written(ffi::send(numbers(request), parts(request), out))
+/// A section that was sent.
+#[derive(Debug, Clone, Copy, PartialEq, Eq, Hash)]
+#[non_exhaustive]
+pub struct Sent {
+    /// Its length.
+    pub length: usize,
+    /// Which header stands first in it: how to read it.
+    pub first: First,
 }
 
-/// The section of a request in a vector of its own. Refused as [`defaulted`] is.
+/// Writes the section of a request to the front of `out`. Bytes of `out` behind the section stay as they were.
+///
+/// # Errors
+///
+/// As of [`defaulted`], then 13 where `out` is shorter than the section. Nothing is written then.
+#[inline]
+pub fn send(request: &Request<'_>, out: &mut [u8]) -> Result<Sent, Refusal> {
+    let answer = ffi::send(request, out);
+    accepted(answer.refusal)?;
+    Ok(Sent { length: answer.length, first: answer.security_first })
+}
+
+/// The section of a request in a vector of its own, and which header stands first in it.
+///
+/// # Errors
+///
+/// As of [`defaulted`].
 ///
 /// ```
 /// use ugbariteyo::{read, send_vec, Body, Request};
 ///
 /// let title: Vec<u16> = "Rope 7".encode_utf16().collect();
 /// let body = Body::from(&b"second"[..]);
-/// let section = send_vec(&Request { title: &title, body: Some(body), ..Request::default() })?;
-/// assert_eq!(read(&section, false)?.label_text().to_string(), "Rope 7");
+/// let (section, first) = send_vec(&Request { title: &title, body: Some(body), ..Request::default() })?;
+/// assert_eq!(read(&section, first)?.label_text().to_string(), "Rope 7");
 /// # Ok::<(), ugbariteyo::Refusal>(())
 /// ```
-pub fn send_vec(request: &Request<'_>) -> Result<Vec<u8>, Refusal> {
+pub fn send_vec(request: &Request<'_>) -> Result<(Vec<u8>, First), Refusal> {
     let mut section = vec![0; request.room()];
-    let length = send(request, &mut section)?;
+    let Sent { length, first } = send(request, &mut section)?;
     section.truncate(length);
-    Ok(section)
+    Ok((section, first))
 }

@@ -34,9 +34,9 @@ impl<'a> Text<'a> {
     /// The units, without the null at the end.
     #[inline]
     pub fn units(self) -> impl Iterator<Item = u16> + 'a {
-        let whole = &self.0[..self.0.len() / 2 * 2];
-        let units = whole.strip_suffix(&[0, 0]).unwrap_or(whole);
-        units.chunks_exact(2).map(|unit| u16::from_le_bytes([unit[0], unit[1]]))
+        let (units, _) = self.0.as_chunks();
+        let units = units.strip_suffix(&[[0; 2]]).unwrap_or(units);
+        units.iter().copied().map(u16::from_le_bytes)
     }
 }
 

@@ -4,18 +4,19 @@ use std::fmt;
 
 use crate::ffi;
 use crate::flags::{PropertiesFlags, SecurityFlags};
+use crate::reading::Reading;
 use crate::refusal::Refusal;
-use crate::section::{Reading, LIMIT};
+use crate::section::{First, LIMIT};
 
 /// The values and parts of a section to write. The sizes are those of the parts.
 ///
 /// Its `Debug` shows no private part.
-// The numbers stand first and lie as in C, so that a call takes them as they are.
-#[derive(Clone, Copy, PartialEq, Eq, Default)]
+// The values but the parts stand first and lie as in C, so that a call takes them as they are.
+#[derive(Clone, Copy, PartialEq, Eq, Hash, Default)]
 #[repr(C)]
 pub struct SectionValues<'a> {
-    /// Whether a SecurityHeader stands first. Without one its flags and parts are ignored.
-    pub security_first: bool,
+    /// Which header stands first. Without a SecurityHeader its flags and parts are ignored.
+    pub first: First,
     /// The SecurityHeader's Flags. Bits 12 to 15 are written zero.
     pub security_flags: SecurityFlags,
     /// The properties' Flags. Bits 4 to 7 are written zero.
@@ -68,7 +69,7 @@ impl SectionValues<'_> {
 impl<'a> From<&Reading<'a>> for SectionValues<'a> {
     fn from(reading: &Reading<'a>) -> Self {
         Self {
-            security_first: reading.security_first(),
+            first: reading.first(),
             security_flags: reading.security_flags(),
             sender_id: reading.sender_id(),
             encryption_key: reading.encryption_key(),
@@ -94,7 +95,7 @@ impl<'a> From<&Reading<'a>> for SectionValues<'a> {
 impl fmt::Debug for SectionValues<'_> {
     fn fmt(&self, f: &mut fmt::Formatter<'_>) -> fmt::Result {
         f.debug_struct("SectionValues")
-            .field("security_first", &self.security_first)
+            .field("first", &self.first)
             .field("security_flags", &self.security_flags)
             .field("flags", &self.flags)
             .field("message_class", &self.message_class)
@@ -107,14 +108,16 @@ impl fmt::Debug for SectionValues<'_> {
     }
 }
 
-/// Writes the section of these values to the front of `out`, and gives its length.
+/// Writes the section of these values to the front of `out`, and gives its length. Bytes of `out` behind the
+/// section stay as they were.
 ///
-/// Refused with 28, then by the steps of reading that look at values and content, then with 13 where `out` is
-/// shorter than the section. A refusal writes nothing, and bytes of `out` behind the section stay as they
-/// were.
+/// # Errors
+///
+/// 28, then 2 to 12 by the steps of reading that look at values and content, then 13 where `out` is shorter than
+/// the section. Nothing is written then.
 ///
 /// ```
-/// use ugbariteyo::{read, text_bytes, write_section, SectionValues};
+/// use ugbariteyo::{read, text_bytes, write_section, First, SectionValues};
 ///
 /// let label = text_bytes("rope 7");
 /// let values = SectionValues {
@@ -126,7 +129,7 @@ impl fmt::Debug for SectionValues<'_> {
 /// };
 /// let mut out = [0; 100];
 /// let length = write_section(&values, &mut out)?;
-/// let section = read(&out[..length], false)?;
+/// let section = read(&out[..length], First::PropertiesHeader)?;
 /// assert_eq!(section.label_text().to_string(), "rope 7");
 /// assert_eq!(SectionValues::from(&section), values);
 /// # Ok::<(), ugbariteyo::Refusal>(())
@@ -136,7 +139,11 @@ pub fn write_section(values: &SectionValues<'_>, out: &mut [u8]) -> Result<usize
     ffi::written(ffi::write_section(values, out))
 }
 
-/// The section of these values in a vector of its own. Refused as [`write_section`] is, but never with 13.
+/// The section of these values in a vector of its own.
+///
+/// # Errors
+///
+/// As of [`write_section`], but never 13.
 pub fn write_section_vec(values: &SectionValues<'_>) -> Result<Vec<u8>, Refusal> {
     let mut section = vec![0; values.room()];
     let length = write_section(values, &mut section)?;

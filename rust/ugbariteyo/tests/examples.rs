@@ -3,9 +3,11 @@
 
 use ugbariteyo::{
     label_shown, read, read_image, same_summary, summarize, support_copy, support_copy_vec, text_bytes,
-    write_image, write_section, write_section_vec, Kind, Part, PropertiesFlags, QueueFormat, Refusal,
-    SectionValues, SecurityFlags, Text, Units, Value, LIMIT,
+    write_image, write_image_parts, write_section, write_section_vec, First, Image, Kind, Part,
+    PropertiesFlags, QueueFormat, Refusal, SectionValues, SecurityFlags, Text, Units, Value, LIMIT,
 };
+
+use First::{PropertiesHeader, SecurityHeader};
 
 /// A MessagePropertiesHeader with these numbers and no parts.
 fn properties(label: u8, class: u16, extension: u32, body: u32, allocation: u32) -> Vec<u8> {
@@ -86,10 +88,11 @@ const FULL_LENGTH: usize = 56 + 56 + 8;
 #[test]
 fn example_1_zero_bytes() {
     let zero = [0; 56];
-    let section = read(&zero, false).unwrap();
+    let section = read(&zero, PropertiesHeader).unwrap();
     assert_eq!(section.section_length(), 56);
-    assert!(!section.security_first() && !section.authentication_fails() && !section.decryption_fails());
-    assert_eq!(read(&zero[..55], false), Err(refused(Kind::InputShort, 0)));
+    assert_eq!(section.first(), PropertiesHeader);
+    assert!(!section.authentication_fails() && !section.decryption_fails());
+    assert_eq!(read(&zero[..55], PropertiesHeader), Err(refused(Kind::InputShort, 0)));
 }
 
 #[test]
@@ -97,18 +100,18 @@ fn example_2_parts_follow_each_other() {
     let mut bytes = properties(3, 0, 5, 2, 2);
     bytes.extend_from_slice(&label(3));
     bytes.extend_from_slice(b"extenbo???");
-    let summary = summarize(&bytes, false).unwrap();
+    let summary = summarize(&bytes, PropertiesHeader).unwrap();
     assert_eq!(summary.label_part, part(56, 62));
     assert_eq!(summary.extension, part(62, 67));
     assert_eq!(summary.body, part(67, 69));
     assert_eq!(summary.section_length, 72);
-    let section = read(&bytes, false).unwrap();
+    let section = read(&bytes, PropertiesHeader).unwrap();
     assert_eq!(
         (section.label(), section.extension(), section.body()),
         (&label(3)[..], &b"exten"[..], &b"bo"[..])
     );
     for cut in 69..72 {
-        assert_eq!(read(&bytes[..cut], false), Err(refused(Kind::InputShort, 0)));
+        assert_eq!(read(&bytes[..cut], PropertiesHeader), Err(refused(Kind::InputShort, 0)));
     }
 }
 
@@ -116,13 +119,16 @@ fn example_2_parts_follow_each_other() {
 fn example_3_longest_label() {
     let mut bytes = properties(250, 0, 0, 0, 0);
     bytes.extend_from_slice(&label(250));
-    let section = read(&bytes, false).unwrap();
+    let section = read(&bytes, PropertiesHeader).unwrap();
     assert_eq!(section.section_length(), 556);
     assert_eq!(section.label_length(), Units(250));
     assert_eq!(section.label().len(), section.label_length().bytes());
     assert_eq!(section.label_text().to_string(), "a".repeat(249));
     for class in [0, 0x8008] {
-        assert_eq!(read(&properties(251, class, 0, 0, 0), false), Err(refused(Kind::LabelLength, 0)));
+        assert_eq!(
+            read(&properties(251, class, 0, 0, 0), PropertiesHeader),
+            Err(refused(Kind::LabelLength, 0))
+        );
     }
 }
 
@@ -130,17 +136,17 @@ fn example_3_longest_label() {
 fn example_4_label_of_one_unit() {
     let mut bytes = properties(1, 0, 0, 0, 0);
     bytes.extend_from_slice(&[0; 4]);
-    assert_eq!(read(&bytes, false).unwrap().section_length(), 60);
-    assert_eq!(label_shown(&bytes, false, b"none"), [0, 0]);
+    assert_eq!(read(&bytes, PropertiesHeader).unwrap().section_length(), 60);
+    assert_eq!(label_shown(&bytes, PropertiesHeader, b"none"), [0, 0]);
     bytes[57] = 1;
-    assert_eq!(read(&bytes, false), Err(refused(Kind::Label, 0)));
-    assert_eq!(label_shown(&bytes, false, b"none"), b"none");
-    assert_eq!(label_shown(&[0; 56], false, b"none"), b"none");
+    assert_eq!(read(&bytes, PropertiesHeader), Err(refused(Kind::Label, 0)));
+    assert_eq!(label_shown(&bytes, PropertiesHeader, b"none"), b"none");
+    assert_eq!(label_shown(&[0; 56], PropertiesHeader, b"none"), b"none");
 }
 
 #[test]
 fn example_5_classes() {
-    let answer = |class| read(&properties(0, class, 0, 0, 0), false).map(|s| s.message_class());
+    let answer = |class| read(&properties(0, class, 0, 0, 0), PropertiesHeader).map(|s| s.message_class());
     assert_eq!(answer(0x8008), Err(refused(Kind::Class, 0)));
     assert_eq!(answer(0x8009), Ok(0x8009));
     assert_eq!((0..=u16::MAX).filter(|&class| answer(class) == Ok(class)).count(), 19);
@@ -149,13 +155,13 @@ fn example_5_classes() {
 #[test]
 fn example_6_at_the_limit() {
     let mut bytes = properties(0, 0, 0, 4_194_248, 4_194_248);
-    assert_eq!(read(&bytes, false), Err(refused(Kind::InputShort, 0)));
+    assert_eq!(read(&bytes, PropertiesHeader), Err(refused(Kind::InputShort, 0)));
     bytes.resize(LIMIT, 0xAA);
-    let section = read(&bytes, false).unwrap();
+    let section = read(&bytes, PropertiesHeader).unwrap();
     assert_eq!((section.section_length(), section.body().len()), (LIMIT, 4_194_248));
     assert_eq!(write_section_vec(&SectionValues::from(&section)).unwrap(), bytes);
     let bytes = properties(0, 0, 0, 4_194_249, 4_194_249);
-    assert_eq!(read(&bytes, false), Err(refused(Kind::AboveTheLimit, 0)));
+    assert_eq!(read(&bytes, PropertiesHeader), Err(refused(Kind::AboveTheLimit, 0)));
 }
 
 #[test]
@@ -163,14 +169,14 @@ fn example_7_key_and_certificate() {
     let mut bytes = security(0x0080, [0, 1, 0], 2, 0);
     bytes.extend_from_slice(b"k???ce??");
     bytes.extend_from_slice(&[0; 56]);
-    let summary = summarize(&bytes, true).unwrap();
+    let summary = summarize(&bytes, SecurityHeader).unwrap();
     let header = summary.security.unwrap();
     assert_eq!((header.encryption_key, header.sender_cert), (part(16, 17), part(20, 22)));
     assert_eq!((header.length, summary.section_length), (24, 80));
-    let section = read(&bytes, true).unwrap();
+    let section = read(&bytes, SecurityHeader).unwrap();
     assert_eq!((section.encryption_key(), section.sender_cert()), (&b"k"[..], &b"ce"[..]));
-    assert_eq!(read(&bytes[..23], true), Err(refused(Kind::InputShort, 0)));
-    assert_eq!(read(&bytes[..24], true), Err(refused(Kind::InputShort, 24)));
+    assert_eq!(read(&bytes[..23], SecurityHeader), Err(refused(Kind::InputShort, 0)));
+    assert_eq!(read(&bytes[..24], SecurityHeader), Err(refused(Kind::InputShort, 24)));
 }
 
 #[test]
@@ -179,7 +185,7 @@ fn example_8_identity_and_signature() {
     bytes.extend_from_slice(&[7; 16]);
     bytes.extend_from_slice(b"signe???");
     bytes.extend_from_slice(&[0; 56]);
-    let section = read(&bytes, true).unwrap();
+    let section = read(&bytes, SecurityHeader).unwrap();
     let header = section.summary().security.unwrap();
     assert_eq!((header.signature, header.length), (part(32, 37), 40));
     assert_eq!((section.sender_id(), section.signature()), (&[7; 16][..], &b"signe"[..]));
@@ -187,7 +193,7 @@ fn example_8_identity_and_signature() {
     assert!(section.security_flags().default_provider() && !section.security_flags().body_encrypted());
     assert!(section.authentication_fails(), "signed, with hash 0");
     bytes[0] = 0x42;
-    assert_eq!(read(&bytes, true), Err(refused(Kind::EmptyOrDpClear, 0)));
+    assert_eq!(read(&bytes, SecurityHeader), Err(refused(Kind::EmptyOrDpClear, 0)));
 }
 
 #[test]
@@ -195,12 +201,12 @@ fn example_9_provider_info() {
     let mut bytes = security(0x0080, [0, 0, 4], 0, 8);
     bytes.extend_from_slice(b"sign\x01\0\0\0x\0\0\0");
     bytes.extend_from_slice(&[0; 56]);
-    let section = read(&bytes, true).unwrap();
+    let section = read(&bytes, SecurityHeader).unwrap();
     let header = section.summary().security.unwrap();
     assert_eq!((header.provider_info, header.length), (part(20, 28), 28));
     assert_eq!((section.provider_type(), section.provider_name().to_string()), (Some(1), "x".to_owned()));
     bytes[12] = 6;
-    assert_eq!(read(&bytes, true), Err(refused(Kind::Provider, 0)));
+    assert_eq!(read(&bytes, SecurityHeader), Err(refused(Kind::Provider, 0)));
 }
 
 #[test]
@@ -216,19 +222,19 @@ fn example_10_queue_pairs() {
         let bytes = image(kind, byte);
         let read = read_image(&bytes).unwrap();
         assert_eq!(read.format, QueueFormat { kind, suffix_and_flags: byte });
-        assert_eq!(read.format, QueueFormat::new(kind, read.format.flags(), read.format.suffix()));
-        let (fixed, text) = (read.value.fixed(), read.value.text().bytes());
-        let written = with_output(40, |out| write_image(read.format, fixed, text, out)).unwrap();
+        assert_eq!(QueueFormat::new(kind, read.format.flags(), read.format.suffix()), Some(read.format));
+        let written = with_output(40, |out| write_image(&read, out)).unwrap();
         assert_eq!(written, [&[kind, byte, 0, 0], &bytes[4..]].concat());
         for room in 0..bytes.len() {
-            let short = with_output(room, |out| write_image(read.format, fixed, text, out));
+            let short = with_output(room, |out| write_image(&read, out));
             assert_eq!(short, Err(refused(Kind::OutputShort, 0)));
         }
     }
     for (kind, byte) in [(4, 0x00), (3, 0x05), (1, 0x82)] {
         assert_eq!(read_image(&image(kind, byte)), Err(refused(Kind::QueueSuffix, 0)));
         let format = QueueFormat { kind, suffix_and_flags: byte };
-        let written = with_output(40, |out| write_image(format, &[9; 16], b"", out));
+        let image = Image { format, value: Value::Guid(&[9; 16]) };
+        let written = with_output(40, |out| write_image(&image, out));
         assert_eq!(written, Err(refused(Kind::QueueSuffix, 0)));
     }
 }
@@ -248,8 +254,8 @@ fn every_queue_value() {
     ];
     for (kind, fixed, text) in cases {
         let fixed = pattern(fixed);
-        let format = QueueFormat::new(kind, QueueFormat::FLAG_NOT_SYSTEM, QueueFormat::SUFFIX_TYPE_NONE);
-        let bytes = with_output(64, |out| write_image(format, &fixed, text, out)).unwrap();
+        let format = QueueFormat { kind, ..QueueFormat::default() };
+        let bytes = with_output(64, |out| write_image_parts(format, &fixed, text, out)).unwrap();
         let image = read_image(&bytes).unwrap();
         assert_eq!(
             (image.format, image.value.fixed(), image.value.text().bytes()),
@@ -271,11 +277,33 @@ fn every_queue_value() {
 }
 
 #[test]
+fn a_queue_format_is_not_cut() {
+    for (flags, suffix) in [(0x80, 0x11), (0x80, 0x81), (0x0F, 0x01), (0x81, 0x01), (0x01, 0x10)] {
+        assert_eq!(QueueFormat::new(4, flags, suffix), None);
+    }
+    let fits = |byte: u8| QueueFormat::new(4, byte & 0xF0, byte & 0x0F);
+    assert!((0..=u8::MAX).all(|byte| fits(byte).is_some_and(|format| format.suffix_and_flags == byte)));
+}
+
+#[test]
+fn a_part_of_another_input() {
+    let whole = part(2, 5);
+    assert_eq!(whole.of(b"abcde"), Some(&b"cde"[..]));
+    assert_eq!((whole.of(b"abcd"), whole.of(b"")), (None, None));
+    assert_eq!(Part { start: 5, length: 0 }.of(b"abcde"), Some(&b""[..]));
+    assert_eq!(Part { start: 6, length: 0 }.of(b"abcde"), None);
+    for part in [Part { start: usize::MAX, length: 2 }, Part { start: 2, length: usize::MAX }] {
+        assert_eq!(part.of(b"abcde"), None);
+    }
+}
+
+#[test]
 fn every_value_of_a_full_section() {
     let bytes = full_section();
-    let section = read(&bytes, true).unwrap();
+    let section = read(&bytes, SecurityHeader).unwrap();
     assert_eq!(section.section_length(), FULL_LENGTH);
-    assert!(section.security_first() && !section.authentication_fails() && !section.decryption_fails());
+    assert_eq!(section.first(), SecurityHeader);
+    assert!(!section.authentication_fails() && !section.decryption_fails());
     assert_eq!(section.security_flags(), SecurityFlags(0x00A1));
     assert_eq!(section.security_flags().sender_kind(), SecurityFlags::SENDER_SID);
     assert!(section.security_flags().body_encrypted() && !section.security_flags().default_provider());
@@ -293,7 +321,7 @@ fn every_value_of_a_full_section() {
     assert_eq!((section.hash_algorithm(), section.encryption_algorithm()), (0x800C, 0x6610));
     assert_eq!((section.label(), section.label_text().to_string()), (&b"a\0\0\0"[..], "a".to_owned()));
     assert_eq!((section.extension(), section.extension_size(), section.body()), (&b"ext"[..], 3, &b"B"[..]));
-    assert_eq!(summarize(&bytes, true), Ok(section.summary()));
+    assert_eq!(summarize(&bytes, SecurityHeader), Ok(section.summary()));
     let header = section.summary().security.unwrap();
     assert_eq!((header.sid_revision, header.sid_sub_authority_count), (1, 1));
     let shown = format!("{section:?} {:?}", SectionValues::from(&section));
@@ -304,7 +332,7 @@ fn every_value_of_a_full_section() {
 fn verdicts_refuse_nothing() {
     let verdicts = |values: &SectionValues<'_>| {
         let bytes = write_section_vec(values).unwrap();
-        let section = read(&bytes, values.security_first).unwrap();
+        let section = read(&bytes, values.first).unwrap();
         (section.authentication_fails(), section.decryption_fails())
     };
     let plain = SectionValues::default();
@@ -313,13 +341,13 @@ fn verdicts_refuse_nothing() {
         assert_eq!(verdicts(&SectionValues { privacy_level: level, ..plain }), (fails, false));
     }
     let security_flags = SecurityFlags(SecurityFlags::DP | SecurityFlags::DE);
-    let signed = SectionValues { security_first: true, security_flags, signature: b"s", ..plain };
+    let signed = SectionValues { first: SecurityHeader, security_flags, signature: b"s", ..plain };
     for hash in 0x8000..0x8010 {
         let fails = ![0x8001, 0x8002, 0x8003, 0x8004, 0x800C, 0x800E].contains(&hash);
         assert_eq!(verdicts(&SectionValues { hash_algorithm: hash, ..signed }), (fails, false));
     }
     let security_flags = SecurityFlags(SecurityFlags::DP | SecurityFlags::EB);
-    let encrypted = SectionValues { security_first: true, security_flags, encryption_key: b"k", ..plain };
+    let encrypted = SectionValues { first: SecurityHeader, security_flags, encryption_key: b"k", ..plain };
     for algorithm in 0x6600..0x6803 {
         let fails = ![0x6602, 0x660E, 0x660F, 0x6610, 0x6801].contains(&algorithm);
         assert_eq!(verdicts(&SectionValues { encryption_algorithm: algorithm, ..encrypted }), (false, fails));
@@ -330,14 +358,14 @@ fn verdicts_refuse_nothing() {
 fn identities_by_sender_kind() {
     let identity = |kind: u16, sender_id: &[u8]| {
         let values = SectionValues {
-            security_first: true,
+            first: SecurityHeader,
             security_flags: SecurityFlags(SecurityFlags::DP | kind),
             sender_id,
             encryption_key: b"k",
             ..Default::default()
         };
         let bytes = write_section_vec(&values)?;
-        let header = summarize(&bytes, true)?.security.unwrap();
+        let header = summarize(&bytes, SecurityHeader)?.security.unwrap();
         Ok((header.sender_id, header.sid_revision, header.sid_sub_authority_count))
     };
     assert_eq!(identity(SecurityFlags::SENDER_NONE, &[]), Ok((part(16, 16), 0, 0)));
@@ -354,8 +382,8 @@ fn identities_by_sender_kind() {
 #[test]
 fn summaries_and_copies_hold_the_judged_bits_alone() {
     let bytes = full_section();
-    let copy = with_output(FULL_LENGTH + 3, |out| support_copy(&bytes, true, out)).unwrap();
-    assert_eq!(support_copy_vec(&bytes, true).unwrap(), copy);
+    let copy = with_output(FULL_LENGTH + 3, |out| support_copy(&bytes, SecurityHeader, out)).unwrap();
+    assert_eq!(support_copy_vec(&bytes, SecurityHeader).unwrap(), copy);
     let mut expected = bytes[..FULL_LENGTH].to_vec();
     expected[1] = 0;
     expected[18..44].fill(0);
@@ -366,7 +394,7 @@ fn summaries_and_copies_hold_the_judged_bits_alone() {
     expected[116..].fill(0);
     assert_eq!(copy, expected);
     for room in 0..FULL_LENGTH {
-        let short = with_output(room, |out| support_copy(&bytes, true, out));
+        let short = with_output(room, |out| support_copy(&bytes, SecurityHeader, out));
         assert_eq!(short, Err(refused(Kind::OutputShort, 0)));
     }
 
@@ -375,9 +403,13 @@ fn summaries_and_copies_hold_the_judged_bits_alone() {
         for bit in 0..8 {
             let mut other = bytes.clone();
             other[at] ^= 1 << bit;
-            let same = summarize(&other, true) == summarize(&bytes, true);
-            assert_eq!(same, same_summary(&other, &bytes, true));
-            assert_eq!(same, support_copy_vec(&other, true).as_ref() == Ok(&copy), "byte {at}, bit {bit}");
+            let same = summarize(&other, SecurityHeader) == summarize(&bytes, SecurityHeader);
+            assert_eq!(same, same_summary(&other, &bytes, SecurityHeader));
+            assert_eq!(
+                same,
+                support_copy_vec(&other, SecurityHeader).as_ref() == Ok(&copy),
+                "byte {at}, bit {bit}"
+            );
         }
     }
 }
@@ -385,7 +417,7 @@ fn summaries_and_copies_hold_the_judged_bits_alone() {
 #[test]
 fn what_was_read_is_written_again() {
     let bytes = full_section();
-    let values = SectionValues::from(&read(&bytes, true).unwrap());
+    let values = SectionValues::from(&read(&bytes, SecurityHeader).unwrap());
     let written = with_output(FULL_LENGTH + 3, |out| write_section(&values, out)).unwrap();
     let mut expected = bytes[..FULL_LENGTH].to_vec();
     expected[1] = 0;
@@ -396,7 +428,7 @@ fn what_was_read_is_written_again() {
     expected[56] = 0x0B;
     assert_eq!(written, expected);
     assert_eq!(write_section_vec(&values).unwrap(), expected);
-    assert_eq!(SectionValues::from(&read(&written, true).unwrap()), values);
+    assert_eq!(SectionValues::from(&read(&written, SecurityHeader).unwrap()), values);
     for room in 0..FULL_LENGTH {
         let short = with_output(room, |out| write_section(&values, out));
         assert_eq!(short, Err(refused(Kind::OutputShort, 0)));
@@ -406,7 +438,7 @@ fn what_was_read_is_written_again() {
 #[test]
 fn refused_writes_leave_the_output_as_it_stood() {
     let bytes = full_section();
-    let good = SectionValues::from(&read(&bytes, true).unwrap());
+    let good = SectionValues::from(&read(&bytes, SecurityHeader).unwrap());
     let long = vec![0; 65_536];
     let label = label(251);
     let p = 56;
@@ -451,29 +483,33 @@ fn refused_writes_leave_the_output_as_it_stood() {
 fn refused_copies_leave_the_output_as_it_stood() {
     let bytes = full_section();
     for end in 0..FULL_LENGTH {
-        let answer = with_output(FULL_LENGTH, |out| support_copy(&bytes[..end], true, out));
+        let answer = with_output(FULL_LENGTH, |out| support_copy(&bytes[..end], SecurityHeader, out));
         assert_eq!(answer, Err(refused(Kind::InputShort, if end < 56 { 0 } else { 56 })));
-        assert_eq!(support_copy_vec(&bytes[..end], true), read(&bytes[..end], true).map(|_| Vec::new()));
+        assert_eq!(
+            support_copy_vec(&bytes[..end], SecurityHeader),
+            read(&bytes[..end], SecurityHeader).map(|_| Vec::new())
+        );
     }
 }
 
 #[test]
 fn empty_slices_everywhere() {
     let short = refused(Kind::InputShort, 0);
-    for security_first in [false, true] {
-        assert_eq!(read(&[], security_first), Err(short));
-        assert_eq!(summarize(&[], security_first), Err(short));
-        assert_eq!(support_copy(&[], security_first, &mut []), Err(short));
-        assert_eq!(support_copy_vec(&[], security_first), Err(short));
-        assert!(!same_summary(&[], &[], security_first));
-        assert_eq!(label_shown(&[], security_first, &[]), []);
+    for first in [PropertiesHeader, SecurityHeader] {
+        assert_eq!(read(&[], first), Err(short));
+        assert_eq!(summarize(&[], first), Err(short));
+        assert_eq!(support_copy(&[], first, &mut []), Err(short));
+        assert_eq!(support_copy_vec(&[], first), Err(short));
+        assert!(!same_summary(&[], &[], first));
+        assert_eq!(label_shown(&[], first, &[]), []);
     }
     assert_eq!(read_image(&[]), Err(short));
-    assert_eq!(write_image(QueueFormat::default(), &[], &[], &mut []), Err(refused(Kind::OutputShort, 0)));
-    assert_eq!(write_image(QueueFormat::default(), &[], &[], &mut [1; 4]), Ok(4));
+    let nothing = Image { format: QueueFormat::default(), value: Value::Nothing };
+    assert_eq!(write_image(&nothing, &mut []), Err(refused(Kind::OutputShort, 0)));
+    assert_eq!(write_image(&nothing, &mut [1; 4]), Ok(4));
     assert_eq!(write_section(&SectionValues::default(), &mut []), Err(refused(Kind::OutputShort, 0)));
     assert_eq!(write_section_vec(&SectionValues::default()).unwrap(), [0; 56]);
-    let header_alone = SectionValues { security_first: true, ..Default::default() };
+    let header_alone = SectionValues { first: SecurityHeader, ..Default::default() };
     assert_eq!(write_section(&header_alone, &mut []), Err(refused(Kind::EmptyOrDpClear, 0)));
     assert_eq!(Text::new(&[]).to_string(), "");
 }
@@ -495,5 +531,5 @@ fn refusals_have_their_numbers_and_words() {
     }
     assert_eq!(Refusal { number: 14, place: 0 }.kind(), None);
     let error: Box<dyn std::error::Error> = refused(Kind::EmptyOrDpClear, 0).into();
-    assert_eq!(error.to_string(), "refused with 4 at 0: empty or DP clear");
+    assert_eq!(error.to_string(), "refused with 4 at 0: all five sizes zero, or DP clear");
 }

@@ -2,8 +2,8 @@
 //! values.
 
 use ugbariteyo::{
-    defaulted, read, send, send_vec, Body, Kind, PropertiesFlags, Refusal, Request, SecurityFlags, Units,
-    LIMIT,
+    defaulted, read, send, send_vec, Body, First, Kind, PropertiesFlags, Refusal, Request, SecurityFlags,
+    Units, LIMIT,
 };
 
 fn refused(kind: Kind) -> Refusal {
@@ -54,15 +54,17 @@ fn full<'a>(title: &'a [u16], name: &'a [u16]) -> Request<'a> {
 fn example_11_titles() {
     for (length, label) in [(0, 0), (1, 2), (248, 249), (249, 250), (250, 250), (300, 250)] {
         let title = vec![0x61; length];
-        let section = send_vec(&Request { title: &title, ..Default::default() }).unwrap();
-        assert_eq!(read(&section, false).unwrap().label_length(), Units(label));
+        let (section, first) = send_vec(&Request { title: &title, ..Default::default() }).unwrap();
+        assert_eq!(first, First::PropertiesHeader);
+        assert_eq!(read(&section, first).unwrap().label_length(), Units(label));
     }
     let cut = [0x61, 0, 0x62];
     let request = Request { title: &cut, ..Default::default() };
     assert_eq!(defaulted(&request).unwrap().title, [0x61]);
-    assert_eq!(read(&send_vec(&request).unwrap(), false).unwrap().label_text().to_string(), "a");
+    let (section, first) = send_vec(&request).unwrap();
+    assert_eq!(read(&section, first).unwrap().label_text().to_string(), "a");
     let empty = Request { title: &cut[1..], ..Default::default() };
-    assert_eq!(send_vec(&empty).unwrap(), [0; 56]);
+    assert_eq!(send_vec(&empty), Ok((vec![0; 56], First::PropertiesHeader)));
 }
 
 #[test]
@@ -82,7 +84,7 @@ fn an_absent_value_gets_its_default() {
         (properties.correlation_id, properties.title.len(), properties.signature.len()),
         ([0; 20], 0, 0)
     );
-    assert_eq!(send_vec(&request).unwrap(), [0; 56]);
+    assert_eq!(send_vec(&request), Ok((vec![0; 56], First::PropertiesHeader)));
 
     let transaction = Request { transaction: true, delivery: Some(0), ..Default::default() };
     assert_eq!(defaulted(&transaction).unwrap().handling.unwrap().delivery, 1);
@@ -99,8 +101,9 @@ fn a_section_carries_the_defaulted_values() {
     assert_eq!(properties.handling.unwrap().delivery, 1);
     assert_eq!(properties.privacy_level, 2);
 
-    let bytes = send_vec(&request).unwrap();
-    let section = read(&bytes, true).unwrap();
+    let (bytes, first) = send_vec(&request).unwrap();
+    let section = read(&bytes, first).unwrap();
+    assert_eq!(first, First::SecurityHeader);
     assert_eq!(section.section_length(), bytes.len());
     assert_eq!(section.security_flags(), SecurityFlags(0x00A1));
     assert_eq!((section.sender_id(), section.encryption_key()), (&SID[..], &b"key"[..]));
@@ -123,8 +126,8 @@ fn a_section_carries_the_defaulted_values() {
     );
 
     let default = Request { default_provider: true, provider_type: Some(1), ..request };
-    let bytes = send_vec(&default).unwrap();
-    let section = read(&bytes, true).unwrap();
+    let (bytes, first) = send_vec(&default).unwrap();
+    let section = read(&bytes, first).unwrap();
     assert_eq!((section.security_flags(), section.provider_info()), (SecurityFlags(0x00E1), &b""[..]));
 }
 
@@ -143,8 +146,8 @@ fn steps_in_their_order() {
         (Kind::RequestIdentity, |r| r.sender_kind = Some(2)),
         (Kind::HashAbsent, |r| r.hash_algorithm = None),
         (Kind::AlgorithmAbsent, |r| r.encryption_algorithm = None),
-        (Kind::DirectQueuePrivacy, |r| r.direct_queue = true),
-        (Kind::RequestPrivacy, |r| r.privacy_level = Some(3)),
+        (Kind::PrivacyOnADirectQueue, |r| r.direct_queue = true),
+        (Kind::Privacy, |r| r.privacy_level = Some(3)),
         (Kind::Class, |r| r.message_class = Some(0x1_0000)),
     ];
     for (kind, fail) in steps {
@@ -152,7 +155,7 @@ fn steps_in_their_order() {
         check(&request, kind);
     }
     request.priority = Some(8);
-    check(&request, Kind::RequestRange);
+    check(&request, Kind::ValueOutOfRange);
 
     let good = full(&title, &name);
     for request in [
@@ -161,7 +164,7 @@ fn steps_in_their_order() {
         Request { acknowledge: Some(16), ..good },
         Request { auditing: Some(4), ..good },
     ] {
-        check(&request, Kind::RequestRange);
+        check(&request, Kind::ValueOutOfRange);
     }
     for request in [
         Request { sender_kind: Some(3), ..good },
@@ -197,6 +200,32 @@ fn steps_in_their_order() {
     assert!(send_vec(&Request { signature: &long, ..good }).is_ok(), "the split comes before the size");
 }
 
+/// One part of the four that a SecurityHeader is written for is enough.
+#[test]
+fn which_header_was_sent_first() {
+    let parts = [
+        Request { sender_kind: Some(1), sender_id: &SID, ..Default::default() },
+        Request { encryption_key: b"key", ..Default::default() },
+        Request {
+            signature: b"signed",
+            hash_algorithm: Some(1),
+            default_provider: true,
+            provider_type: Some(1),
+            ..Default::default()
+        },
+        Request { sender_cert: b"cert", ..Default::default() },
+    ];
+    for request in parts {
+        let (section, first) = send_vec(&request).unwrap();
+        assert_eq!(first, First::SecurityHeader);
+        assert_eq!(read(&section, first).unwrap().section_length(), section.len());
+    }
+    let body = Some(Body::from(&b"body"[..]));
+    let (section, first) = send_vec(&Request { extension: b"ext", body, ..Default::default() }).unwrap();
+    assert_eq!(first, First::PropertiesHeader);
+    assert_eq!(read(&section, first).unwrap().body(), b"body");
+}
+
 /// Refused by both functions, with the output as it stood.
 fn check(request: &Request<'_>, kind: Kind) {
     let mut out = vec![0x55; 1_000];
@@ -209,14 +238,15 @@ fn check(request: &Request<'_>, kind: Kind) {
 fn a_short_output_stays_as_it_stood() {
     let (title, name) = (units("Rope 7"), units("Provider"));
     let request = full(&title, &name);
-    let length = send_vec(&request).unwrap().len();
+    let length = send_vec(&request).unwrap().0.len();
     for room in 0..length {
         let mut out = vec![0x55; room];
         assert_eq!(send(&request, &mut out), Err(refused(Kind::OutputShort)));
         assert!(out.iter().all(|&byte| byte == 0x55));
     }
     let mut out = vec![0x55; length + 3];
-    assert_eq!(send(&request, &mut out), Ok(length));
+    let sent = send(&request, &mut out).unwrap();
+    assert_eq!((sent.length, sent.first), (length, First::SecurityHeader));
     assert_eq!(out[length..], [0x55; 3]);
     assert_eq!(send(&Request::default(), &mut []), Err(refused(Kind::OutputShort)));
 }

@@ -5,7 +5,7 @@ use mathlib.Core.Bool.{Bool, true, false, _&&_, _||_, cond, and-eq-true-iff}
 use mathlib.Core.List.{List, []}
 use native.Mathlib.Nat.{zero-add}
 use native.Mathlib.Omega.{arith}
-use borrow.Author.Tests.{ne-eqb, eqb-true, eqb-false, leb-true}
+use borrow.Author.Tests.{eq-eqb, ne-eqb, eqb-true, eqb-false, leb-true}
 use lib.ListN.{length, getD, drop, length-drop}
 use lib.Dec.{eqb, leb, ltb}
 use Rattle.octets.specs.Number.{le}
@@ -13,13 +13,13 @@ use Rattle.octets.specs.Padding.{padded}
 use Rattle.octets.specs.Part.{within}
 use Rattle.octets.proofs.Laws.Number.{le-cong, le-out}
 use Rattle.octets.proofs.Laws.Part.{getD-within, whole-in, within-none}
-use Rattle.rules.specs.Properties.{propertiesFields, propertiesParts}
-use Rattle.rules.specs.Reading.{fieldsAt, headerAt, judge, labelOr, labelShown, securityHeader, securityNumber, startAt, summaryAt}
+use Rattle.rules.specs.Properties.{propertiesFields}
+use Rattle.rules.specs.Reading.{fieldsAt, headerAt, judge, securityHeader, securityNumber, startAt, summaryAt}
 use Rattle.rules.specs.Refusal.{limit}
 use Rattle.rules.specs.Security.{DE, ST, certAt, keyAt, providerAt, providerSize, securityFields, securityLength, securityParts, signatureAt}
-use Rattle.rules.specs.Summary.{labelOf, noSecurity, partOf, summaryOf}
+use Rattle.rules.specs.Summary.{noSecurity, summaryOf}
 use Rattle.rules.specs.declared.security.SecurityHeader.{SecurityHeader}
-use Rattle.rules.proofs.Laws.Accepted.{HeaderPassed, SectionPassed, header-fits, identity-le, judge-passed, security-number, summarize-passed, summarize-refused}
+use Rattle.rules.proofs.Laws.Accepted.{HeaderPassed, SectionPassed, header-fits, identity-le, judge-passed, security-number}
 use Rattle.reading.specs.Fields.{propertiesRead, securityRead, startRead}
 
 pub security-read : (s : List ℕ) → 16 ≤ length s → securityRead s ≡ securityFields s
@@ -46,17 +46,20 @@ start-passed false s e = record { read = refl; small = omega arith }
 
 -- all of it, once every step has passed
 pub record Passed (first : Bool) (s : List ℕ) : Type 0 where
+  pub place : judge first s .place .0 ≡ startAt first s
   pub start : Start first s
   pub fixed : startAt first s + 56 ≤ length s
   pub fields : propertiesRead s (startAt first s) ≡ fieldsAt first s
 
 pub accepted : (first : Bool) (s : List ℕ) → judge first s .number ≡ 0 → Passed first s
-unfolding fieldsAt summaryAt summaryOf startAt
+unfolding judge fieldsAt summaryAt summaryOf startAt
 accepted first s e =
     let a = judge-passed first s .0 e in
     let p = headerAt first s .parts .length .0 in
+    let none = security-number first s .1 (a .security) in
     record {
-      start = start-passed first s (security-number first s .1 (a .security));
+      place = rw (eq-eqb (securityNumber first s) 0 none);
+      start = start-passed first s none;
       fixed = a .properties .fixed;
       fields = properties-read s p (a .properties .fixed);
     }
@@ -119,14 +122,3 @@ module _ (s : List ℕ) where
             type-read (providerAt f) (f .«provider_info_size» .0) (eqb (f .«provider_info_size» .0) 0) (omega arith) refl
             (provider-le (DE f) (f .«signature_size» .0) (f .«provider_info_size» .0) (fits .provider));
       }
-
--- the label shown, by the refusal
-pub label-refused : (first : Bool) (s standIn : List ℕ) → ¬ (judge first s .number ≡ 0) → labelShown first s standIn ≡ standIn
-unfolding labelShown labelOr
-label-refused first s standIn some = rw (summarize-refused first s some)
-
-pub label-accepted : (first : Bool) (s standIn : List ℕ) → judge first s .number ≡ 0
-    → labelShown first s standIn
-    ≡ cond (eqb (fieldsAt first s .«label_length» .0) 0) standIn (partOf s (propertiesParts (startAt first s) (fieldsAt first s) .label))
-unfolding labelShown labelOr labelOf summaryAt summaryOf
-label-accepted first s standIn none = rw (summarize-passed first s none)

@@ -28,6 +28,14 @@ and-right true b e = e
 and-right false true e = refl
 and-right false false e = e
 
+pub or-assoc : (a b c : Bool) → ((a || b) || c) ≡ (a || (b || c))
+or-assoc true b c = refl
+or-assoc false b c = refl
+
+pub or-false : (a : Bool) → (a || false) ≡ a
+or-false true = refl
+or-false false = refl
+
 pub listed-in : (xs : List ℕ) (lo n c : ℕ) → allListed xs lo n ≡ true → lo ≤ c → c < lo + n → listed xs c ≡ true
 listed-in xs lo zero c t h k = absurd (omega arith)
 listed-in xs lo (suc n) c t h k =

@@ -10,10 +10,12 @@ use lib.Seq.{length-take-le, take-at, take-length}
 use Rattle.octets.specs.Over.{over}
 use Rattle.octets.specs.Part.{within}
 use Rattle.octets.proofs.Laws.Part.{rest-drop, within-in}
+use Rattle.rules.specs.Output.{writerOutput}
 use Rattle.rules.specs.declared.refusal.Checked.{Checked}
 use Rattle.rules.specs.declared.refusal.Checked.the-variants.{Passed, Refused}
+use Rattle.rules.specs.declared.section.Output.{Output}
 use Rattle.writing.specs.Given.{given}
-use Rattle.writing.specs.Writing.{writeAnswer, writeBytes, writeRefusal}
+use Rattle.writing.specs.Writing.{sectionBytes, writeAnswer, writeBytes, writeRefusal}
 use Rattle.writing.specs.declared.values.SectionValues.{SectionValues}
 use Rattle.requests.specs.Defaults.{bodyOf, bodyOr, class, correlationOf, count, properties, propertiesOf, senderOf, signatureOf, titleOf}
 use Rattle.requests.specs.Request.{SendRequest}
@@ -26,7 +28,7 @@ use Rattle.requests.specs.declared.request.Body.the-variants.{Absent, Given}
 use Rattle.requests.proofs.Laws.Legal.{RequestPassed, acknowledge-small, class-small, identity-fits, request-passed}
 use Rattle.requests.proofs.Laws.Text.{label-most}
 use Rattle.requests.proofs.Laws.Title.{title-first, title-small}
-use Rattle.sending.specs.Send.{answerAfter, bytesAfter, givenBy, sendAnswer, sendBytes, senderOr, valuesOf}
+use Rattle.sending.specs.Send.{answerAfter, givenBy, sendAnswer, sendBytes, senderOr, valuesOf}
 use Rattle.sending.proofs.Laws.Given.{request-placed}
 
 -- the first bytes of an array over which a part was written
@@ -98,14 +100,14 @@ gets q p e = go (requestSteps q) refl e
 
 -- what is given to the section writer
 pub given-made : (q : SendRequest) (p : Properties) (b : Bool) (id : List ℕ) {values : SectionValues} {made s l body : List ℕ}
-    → p ≡ properties q → b ≡ first q → values ≡ valuesOf p b → made ≡ correlationOf (q .values) id
+    → p ≡ properties q → b ≡ first q → made ≡ correlationOf (q .values) id → values ≡ valuesOf p b made
     → s ≡ signatureOf (q .values) (q .signature) → l ≡ label (q .title) → body ≡ bodyOf (q .values) (q .body)
-    → given values made (q .senderId) (q .encryptionKey) s (q .senderCert)
+    → given values (q .senderId) (q .encryptionKey) s (q .senderCert)
     (providerInfo (q .values) (q .signature) (q .providerName)) l (q .extension) body ≡ givenBy q id
 unfolding givenBy
-given-made q p b id ep eb ev ei es el ebody =
+given-made q p b id ep eb ei ev es el ebody =
     λ i.
-    given ((ev ∙ λ j. valuesOf (ep j) (eb j)) i) (ei i) (q .senderId) (q .encryptionKey) (es i) (q .senderCert)
+    given ((ev ∙ λ j. valuesOf (ep j) (eb j) (ei j)) i) (q .senderId) (q .encryptionKey) (es i) (q .senderCert)
     (providerInfo (q .values) (q .signature) (q .providerName)) (el i) (q .extension) (ebody i)
 
 -- the section writer can only refuse for the output
@@ -114,8 +116,9 @@ Sent q id out = (writeAnswer (givenBy q id) out ≡ sendAnswer q out) × (writeB
 
 pub legal-sent : (q : SendRequest) (p : Properties) (id out : List ℕ) → ((i : ℕ) → getD (q .title) i 0 < 65536)
     → ((i : ℕ) → getD (q .providerName) i 0 < 65536) → Gets q p → Sent q id out
-unfolding writeAnswer writeBytes sendAnswer answerAfter sendBytes bytesAfter
+unfolding writeAnswer writeBytes sendAnswer answerAfter sendBytes
 legal-sent q p id out units name g =
     let placed = request-placed q id units name (g .legal) in
     let none = eq-eqb (writeRefusal (givenBy q id) .number) 0 (placed .passed) in
-    (rw (none, placed .length, g .answered), rw (none, placed .length, g .answered))
+    let answer : writeAnswer (givenBy q id) out ≡ sendAnswer q out = rw (none, placed .length, g .answered) in
+    (answer, ap (λ (a : Output). writerOutput a (sectionBytes (givenBy q id)) out) answer)

@@ -45,7 +45,7 @@ pub record Way (k : Given → Given) (p : ℕ) : Type 0 where
   pub properties : (g : Given) → propertiesGiven (k g) ≡ propertiesGiven g
   pub label : (g : Given) → k g .label ≡ g .label
   pub provider : (g : Given) → k g .providerInfo ≡ g .providerInfo
-  pub correlation : (g : Given) → length (g .correlationId) ≡ 20 → length (k g .correlationId) ≡ 20
+  pub correlation : (g : Given) → length (g .values .«correlation_id») ≡ 20 → length (k g .values .«correlation_id») ≡ 20
   pub identity : (g : Given) → identitySize (ST (securityGiven g)) (securityGiven g .«sender_id_size» .0) ≡ true
       → identityHead (securityGiven g) (k g .senderId) ≡ identityHead (securityGiven g) (g .senderId)
   pub securityShown : (g : Given) (s : List ℕ) → Octets s → SecurityOf g s

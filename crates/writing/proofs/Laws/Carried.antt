@@ -47,7 +47,7 @@ properties-carried g s p b a =
     let room = a .room in
     let parts = a .parts in
     properties-shown 8 g g s p b a refl (a .even)
-    (shown-part s (p + 4) 20 (omega arith) b (g .correlationId) (a .correlation))
+    (shown-part s (p + 4) 20 (omega arith) b (g .values .«correlation_id») (a .correlation))
     (subst (λ (n : ℕ). Shown (replicate 4 8) (toLe 4 n) s (p + 28)) (sym (a .tag ∙ le-drop 4 s p 28))
     (shown-number s (p + 28) 4 (omega arith) b))
     (shown-part s (p + 56) (labelBytes f) (omega arith) b (g .label) (parts .label))

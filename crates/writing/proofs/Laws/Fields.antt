@@ -29,26 +29,26 @@ unfolding securityFixed
 securityFields-written g rest h = ap securityFields (security-row g rest) ∙ named-written securityNamed (securityGiven g) _ h
 
 abbrev pub PropertiesHolds : Given → Type 0
-PropertiesHolds g = Fits propertiesRow (fixed (propertiesGiven g) (g .correlationId) (g .values .«application_tag»))
+PropertiesHolds g = Fits propertiesRow (fixed (propertiesGiven g) (g .values .«correlation_id») (g .values .«application_tag»))
 
 module _ (g : Given) (rest : List ℕ) (h : PropertiesHolds g) where
   pub propertiesFields-written : propertiesFields (propertiesBytes g ++ rest) ≡ propertiesGiven g
   unfolding propertiesFixed
   propertiesFields-written =
       ap propertiesFields (properties-row g rest)
-      ∙ named-written propertiesNamed (fixed (propertiesGiven g) (g .correlationId) (g .values .«application_tag»)) _ h
+      ∙ named-written propertiesNamed (fixed (propertiesGiven g) (g .values .«correlation_id») (g .values .«application_tag»)) _ h
 
   -- and the two private fields
-  private-written : (g .correlationId ≡ take 20 (drop 4 (propertiesBytes g ++ rest)))
+  private-written : (g .values .«correlation_id» ≡ take 20 (drop 4 (propertiesBytes g ++ rest)))
       × (toLe 4 (g .values .«application_tag») ≡ take 4 (drop 28 (propertiesBytes g ++ rest)))
   unfolding propertiesFixed propertiesRow Reads FieldReads width
   private-written =
-      let x = fixed (propertiesGiven g) (g .correlationId) (g .values .«application_tag») in
+      let x = fixed (propertiesGiven g) (g .values .«correlation_id») (g .values .«application_tag») in
       let reads = row-read x (propertiesBytes g ++ rest) _ propertiesRow 0 h (properties-row g rest) in
       (reads .1 .1 .1 .0, reads .1 .1 .1 .1 .1 .0)
 
   pub correlation-written : (s : List ℕ) (p : ℕ) → drop p s ≡ propertiesBytes g ++ rest → p + 24 ≤ length s
-      → within s (p + 4) 20 ≡ g .correlationId
+      → within s (p + 4) 20 ≡ g .values .«correlation_id»
   correlation-written s p row room =
       within-in s (p + 4) 20 (omega arith)
       ∙ ap (take 20) (sym (drop-drop 4 p s))

@@ -19,7 +19,7 @@ use Rattle.writing.proofs.Laws.Placed.{HeaderPlaced, PropertiesPlaced, 
 use Rattle.writing.proofs.Laws.Row.{length-given, length-headerBytes, length-propertiesBytes}
 
 -- as many bytes as the layout has
-pub length-section : (g : Given) → length (g .correlationId) ≡ 20 → writeRefusal g .number ≡ 0
+pub length-section : (g : Given) → length (g .values .«correlation_id») ≡ 20 → writeRefusal g .number ≡ 0
     → length (sectionBytes g) ≡ layoutLength g
 unfolding sectionBytes
 length-section g twenty e =

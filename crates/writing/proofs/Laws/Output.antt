@@ -1,14 +1,16 @@
 -- What a section that no step refuses makes of an output.
 use Prim.Native.Nat.{ℕ, _≤_}
-use mathlib.Core.Path.{_≡_, refl}
+use mathlib.Core.Path.{_≡_, refl, ap, _∙_}
 use mathlib.Core.Bool.{Bool, true, false, cond, not}
-use mathlib.Core.List.{List, _++_}
+use mathlib.Core.List.{List}
 use native.Mathlib.Omega.{arith}
 use borrow.Author.Tests.{eq-eqb, eqb-true, le-ltb, ltb-false, not-false}
 use lib.ListN.{length, take, drop}
 use lib.Dec.{eqb, ltb}
 use lib.Seq.{drop-at, take-at}
+use Rattle.octets.specs.Over.{over}
 use Rattle.octets.specs.declared.count.Bytes.{Bytes}
+use Rattle.rules.specs.Output.{writerOutput}
 use Rattle.rules.specs.Refusal.{bytes}
 use Rattle.rules.specs.declared.refusal.Refusal.{Refusal}
 use Rattle.rules.specs.declared.section.Output.{Output}
@@ -42,13 +44,24 @@ module _ (g : Given) (out : List ℕ) (e : writeRefusal g .number ≡ 0) (room :
   unfolding writeAnswer
   placed-answer = rw (eq-eqb (writeRefusal g .number) 0 e, le-ltb (length out) (layoutLength g) room)
 
-  pub placed-bytes : writeBytes g out ≡ sectionBytes g ++ drop (layoutLength g) out
-  unfolding writeBytes
-  placed-bytes = rw (eq-eqb (writeRefusal g .number) 0 e, le-ltb (length out) (layoutLength g) room)
+  pub placed-bytes : writeBytes g out ≡ over (sectionBytes g) out
+  unfolding writeBytes writerOutput
+  placed-bytes = ap (λ (a : Output). writerOutput a (sectionBytes g) out) placed-answer
 
   module _ (size : length (sectionBytes g) ≡ layoutLength g) where
     pub placed-first : take (layoutLength g) (writeBytes g out) ≡ sectionBytes g
-    placed-first = rw placed-bytes (take-at (sectionBytes g) (drop (layoutLength g) out) (layoutLength g) size)
+    unfolding over
+    placed-first = rw placed-bytes (take-at (sectionBytes g) (drop (length (sectionBytes g)) out) (layoutLength g) size)
 
     pub placed-behind : drop (layoutLength g) (writeBytes g out) ≡ drop (layoutLength g) out
-    placed-behind = rw placed-bytes (drop-at (sectionBytes g) (drop (layoutLength g) out) (layoutLength g) size)
+    unfolding over
+    placed-behind =
+        rw placed-bytes
+        (drop-at (sectionBytes g) (drop (length (sectionBytes g)) out) (layoutLength g) size ∙ ap (λ (k : ℕ). drop k out) size)
+
+-- what an output holds that is tested for room alone
+pub output-tested : (short : Bool) (r : Refusal) (n : Bytes) (written out : List ℕ)
+    → writerOutput (cond short (Refused r) (Written n)) written out ≡ cond short out (over written out)
+unfolding writerOutput
+output-tested true r n written out = refl
+output-tested false r n written out = refl

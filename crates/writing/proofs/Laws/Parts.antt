@@ -66,7 +66,7 @@ pub record PropertiesPartsAt (g : Given) (s : List ℕ) (p : ℕ) : Type 0 where
 
 -- so they do in what is written
 pub propertiesParts-written : (g : Given) (s rest : List ℕ) (p : ℕ)
-    → length (g .correlationId) ≡ 20 → length (g .label) % 2 ≡ 0 → drop p s ≡ propertiesBytes g ++ rest → PropertiesPartsAt g s p
+    → length (g .values .«correlation_id») ≡ 20 → length (g .label) % 2 ≡ 0 → drop p s ≡ propertiesBytes g ++ rest → PropertiesPartsAt g s p
 unfolding propertiesParts propertiesFrom extensionAt bodyAt
 propertiesParts-written g s rest p c even row =
     let body = g .body ++ (lastPadding g ++ rest) in

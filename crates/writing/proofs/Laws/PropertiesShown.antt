@@ -29,7 +29,7 @@ propertiesMasks p f label extension body =
 pub record PropertiesOf (g : Given) (s : List ℕ) (p : ℕ) : Type 0 where
   pub room : p + propertiesLength (propertiesGiven g) ≤ length s
   pub even : length (g .label) % 2 ≡ 0
-  pub correlation : within s (p + 4) 20 ≡ g .correlationId
+  pub correlation : within s (p + 4) 20 ≡ g .values .«correlation_id»
   pub fields : propertiesGiven g ≡ propertiesFields (drop p s)
   pub tag : g .values .«application_tag» ≡ le 4 (drop p s) 28
   pub parts : PropertiesPartsAt g s p
@@ -37,7 +37,7 @@ pub record PropertiesOf (g : Given) (s : List ℕ) (p : ℕ) : Type 0 where
 -- where other parts with those fields show the input through masks, so does the header written of them
 pub properties-shown : (bits : ℕ) (g other : Given) (s : List ℕ) (p : ℕ) → Octets s → PropertiesOf g s p
     → propertiesGiven other ≡ propertiesGiven g → length (other .label) % 2 ≡ 0
-    → Shown (replicate 20 bits) (other .correlationId) s (p + 4)
+    → Shown (replicate 20 bits) (other .values .«correlation_id») s (p + 4)
     → Shown (replicate 4 bits) (toLe 4 (other .values .«application_tag»)) s (p + 28)
     → {label extension body : List ℕ}
     → Shown label (other .label) s (p + 56)
@@ -50,12 +50,12 @@ properties-shown bits g other s p b a e even c t l x y =
     let h = drop p s in
     let room = a .room in
     let rest : length h ≡ length s - p = length-drop p s in
-    let all = fixed (propertiesGiven other) (other .correlationId) (other .values .«application_tag») in
+    let all = fixed (propertiesGiven other) (other .values .«correlation_id») (other .values .«application_tag») in
     let reads = properties-reads (keep bits) all h (e ∙ a .fields)
     (shown-behind p 4 refl c .kept) (shown-behind p 28 refl t .kept) in
     let row : Shown (rowBits bits propertiesRow) (propertiesFixed other) h 0 =
     shown-row propertiesRow all bits h (octets-drop s p b) (rw properties-size (omega arith)) reads in
-    let twenty : length (other .correlationId) ≡ 20 = c .size ∙ length-replicate 20 bits in
+    let twenty : length (other .values .«correlation_id») ≡ 20 = c .size ∙ length-replicate 20 bits in
     let size : length (propertiesFixed other) ≡ 56 = length-propertiesFixed other twenty in
     let units : length (other .label) / 2 ≡ f .«label_length» .0 = ap (λ (f : PropertiesFields). f .«label_length» .0) e in
     let size₁ : length (other .label) ≡ labelBytes f = omega arith in

@@ -55,12 +55,12 @@ pub properties-row : (g : Given) (rest : List ℕ)
 unfolding propertiesBytes paddedPart lastPadding
 properties-row g rest = simp append-assoc
 
-pub length-propertiesFixed : (g : Given) → length (g .correlationId) ≡ 20 → length (propertiesFixed g) ≡ 56
+pub length-propertiesFixed : (g : Given) → length (g .values .«correlation_id») ≡ 20 → length (propertiesFixed g) ≡ 56
 unfolding propertiesFixed rowBytes propertiesRow fieldBytes
 length-propertiesFixed g c = simp (length-append, length-toLe) (omega arith)
 
 -- with the parts behind them, and no padding
-pub length-unpadded : (g : Given) → length (g .correlationId) ≡ 20
+pub length-unpadded : (g : Given) → length (g .values .«correlation_id») ≡ 20
     → length (propertiesFixed g ++ (g .label ++ (g .extension ++ g .body)))
     ≡ 56 + length (g .label) + length (g .extension) + length (g .body)
 length-unpadded g c = simp (length-append, length-propertiesFixed g c) (omega arith)
@@ -71,7 +71,7 @@ pub length-given : (g : Given) → length (g .label) % 2 ≡ 0
 unfolding propertiesFrom propertiesLength
 length-given g even = ap (padded 4) (omega arith)
 
-pub length-propertiesBytes : (g : Given) → length (g .correlationId) ≡ 20 → length (g .label) % 2 ≡ 0
+pub length-propertiesBytes : (g : Given) → length (g .values .«correlation_id») ≡ 20 → length (g .label) % 2 ≡ 0
     → length (propertiesBytes g) ≡ propertiesLength (propertiesGiven g)
 unfolding propertiesBytes
 length-propertiesBytes g c even =

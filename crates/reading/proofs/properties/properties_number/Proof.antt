@@ -1,5 +1,5 @@
 -- Each return is the first of P1 to P7 whose test holds.
-use Prim.Native.Nat.{ℕ, _+_, _≤_, _<_, min}
+use Prim.Native.Nat.{ℕ, _+_, _≤_, _<_}
 use mathlib.Core.Path.{_≡_, ap, _∙_}
 use mathlib.Core.List.{List}
 use native.Mathlib.Omega.{arith}
@@ -11,7 +11,7 @@ use Rattle.rules.specs.Reading.{propertiesNumber}
 use Rattle.rules.specs.Refusal.{firstOf, limit}
 use Rattle.rules.specs.Summary.{partOf}
 use Rattle.rules.specs.declared.properties.PropertiesFields.{PropertiesFields}
-use Rattle.reading.proofs.Laws.Fields.{properties-read}
+use Rattle.rules.specs.declared.properties.PropertiesParts.{PropertiesParts}
 use borrow.Author.Needs.{needs}
 use Rattle.reading.proofs.properties.properties_number.Statement.{statement}
 use Rattle.reading.proofs.properties.properties_number.Tie as tie
@@ -21,31 +21,29 @@ unfolding propertiesNumber readProperties
 returns c = search steps depth 20
 
 -- what the steps look at is what the definitions read
-input : tie.After-properties-fields → List ℕ
+input : tie.After-fields-at → List ℕ
 input c = now (the tie.Start (search) .args .s)
 
-start : tie.After-properties-fields → ℕ
+start : tie.After-fields-at → ℕ
 start c = the tie.Start (search) .args .at .0
 
-abbrev held : tie.After-properties-fields → PropertiesFields
+abbrev held : tie.After-fields-at → PropertiesFields
 held c = propertiesFields (drop (start c) (input c))
 
-fields : (c : tie.After-properties-fields) → c .properties-fields .result ≡ held c
+fields : (c : tie.After-fields-at) → c .fields-at .result ≡ held c
 unfolding input start
-fields c =
-    let a = the tie.Start (search) .args in
-    c .properties-fields .ensures .0 ∙ properties-read (now (a .s)) (a .at .0) (omega arith)
+fields c = c .fields-at .ensures .0
 
 steps-told : (c : tie.After-properties-steps) → c .properties-steps .result ≡ propertiesSteps (held (c .before))
 steps-told c = c .properties-steps .ensures ∙ ap propertiesSteps (fields (c .before))
 
-end-told : (c : tie.After-section-end)
-    → c .section-end .result .0
-    ≡ min (limit + 1) (start (c .before .before .before) + propertiesLength (held (c .before .before .before)))
-unfolding start
+end-told : (c : tie.After-properties-parts)
+    → c .properties-parts .result .«section_length» .0
+    ≡ start (c .before .before .before) + propertiesLength (held (c .before .before .before))
+unfolding start propertiesParts
 end-told c =
-    c .section-end .ensures
-    ∙ ap (λ (f : PropertiesFields). min (limit + 1) (the tie.Start (search) .args .at .0 + propertiesLength f)) (fields (c .before .before .before))
+    ap (λ (p : PropertiesParts). p .«section_length» .0) (c .properties-parts .ensures)
+    ∙ ap (λ (f : PropertiesFields). the tie.Start (search) .args .at .0 + propertiesLength f) (fields (c .before .before .before))
 
 returns-2 : tie.Need-returns-2
 unfolding input start propertiesNumber readProperties firstOf

@@ -3,13 +3,15 @@ use Prim.Native.Nat.{ℕ, _≤_}
 use mathlib.Core.Path.{_≡_, ap, ap₂, sym, subst, _∙_}
 use mathlib.Core.Bool.{Bool}
 use mathlib.Core.List.{List}
+use native.Mathlib.Omega.{arith}
 use denote.Ref.{now}
+use lib.ListN.{drop}
 use Rattle.octets.proofs.Laws.Steps.{the}
+use Rattle.rules.specs.Properties.{propertiesFields}
 use Rattle.rules.specs.Reading.{fieldsAt, headerAt, startAt}
 use Rattle.rules.specs.Refusal.{limit}
 use Rattle.rules.specs.declared.properties.PropertiesFields.{PropertiesFields}
 use Rattle.rules.specs.declared.security.SecurityHeader.{SecurityHeader}
-use Rattle.reading.specs.Fields.{propertiesRead}
 use Rattle.reading.specs.Same.{SameContents, SameHeader}
 use Rattle.reading.proofs.Laws.Decided.{Decides, fails, holds, refuted, shown}
 use Rattle.reading.proofs.Laws.Fields.{Passed, accepted}
@@ -45,21 +47,34 @@ returns : tie.Need-returns
 unfolding first left right
 returns c = fails (λ e. refuted _ (headers (c .before)) (c .if1 .taken) (same-summary-header _ _ _ e))
 
-left-fields : (c : tie.After-properties-fields) → c .properties-fields .result ≡ fieldsAt (first (c .before .before .before)) (left (c .before .before .before))
+-- each begins where its header ends
+left-start : (c : tie.After-header-at2) → c .before .header-at .result .parts .length .0 ≡ startAt (first c) (left c)
 unfolding first left startAt
+left-start c = ap (λ (x : SecurityHeader). x .parts .length .0) (c .before .header-at .ensures)
+
+right-start : (c : tie.After-header-at2) → c .header-at2 .result .parts .length .0 ≡ startAt (first c) (right c)
+unfolding first right startAt
+right-start c = ap (λ (x : SecurityHeader). x .parts .length .0) (c .header-at2 .ensures)
+
+fields-at-requires : tie.Need-fields-at-requires
+unfolding left
+fields-at-requires c κs = omega (arith, left-start (search), left-read (search) .fixed)
+
+left-fields : (c : tie.After-fields-at) → c .fields-at .result ≡ fieldsAt (first (c .before .before .before)) (left (c .before .before .before))
+unfolding first left fieldsAt
 left-fields c =
     let h = c .before .before .before in
-    c .properties-fields .ensures .0
-    ∙ ap (λ (x : SecurityHeader). propertiesRead (left h) (x .parts .length .0)) (h .before .header-at .ensures)
-    ∙ left-read h .fields
+    c .fields-at .ensures .0 ∙ ap (λ (p : ℕ). propertiesFields (drop p (left h))) (left-start h)
 
-right-fields : (c : tie.After-properties-fields2) → c .properties-fields2 .result ≡ fieldsAt (first (c .before .before .before .before)) (right (c .before .before .before .before))
-unfolding first right startAt
+fields-at-requires-2 : tie.Need-fields-at-requires-2
+unfolding right
+fields-at-requires-2 c κs = omega (arith, right-start (search), right-read (search) .fixed)
+
+right-fields : (c : tie.After-fields-at2) → c .fields-at2 .result ≡ fieldsAt (first (c .before .before .before .before)) (right (c .before .before .before .before))
+unfolding first right fieldsAt
 right-fields c =
     let h = c .before .before .before .before in
-    c .properties-fields2 .ensures .0
-    ∙ ap (λ (x : SecurityHeader). propertiesRead (right h) (x .parts .length .0)) (h .header-at2 .ensures)
-    ∙ right-read h .fields
+    c .fields-at2 .ensures .0 ∙ ap (λ (p : ℕ). propertiesFields (drop p (right h))) (right-start h)
 
 fields : (c : tie.After-same-properties)
     → let h = c .before .before .before .before .before in
@@ -71,13 +86,10 @@ unfolding first left right
 returns-2 c = fails (λ e. refuted _ (fields (c .before)) (c .if2 .taken) (same-summary-properties _ _ _ e))
 
 same-contents-requires : tie.Need-same-contents-requires
-unfolding first left right startAt
-same-contents-requires c κs =
-    let h : tie.After-header-at2 = search in
-    let length : SecurityHeader → ℕ = (λ x. x .parts .length .0) in (
-      subst (λ (n : ℕ). n ≤ limit) (sym (ap length (h .before .header-at .ensures))) (left-read h .start .small),
-      subst (λ (n : ℕ). n ≤ limit) (sym (ap length (h .header-at2 .ensures))) (right-read h .start .small),
-    )
+same-contents-requires c κs = (
+  omega (arith, left-start (search), left-read (search) .start .small),
+  omega (arith, right-start (search), right-read (search) .start .small),
+)
 
 contents : (c : tie.After-same-contents)
     → let h = c .before .before .before .before .before .before .before in
@@ -110,8 +122,8 @@ same-accepted-spec =
     (λ c κs. search needs)
     (λ c κs. search needs)
     returns
-    (λ c κs. search needs)
-    (λ c κs. search needs)
+    fields-at-requires
+    fields-at-requires-2
     (λ c κs. search needs)
     returns-2
     same-contents-requires

@@ -1,10 +1,11 @@
 -- The refusal picks the case.
 use mathlib.Core.Path.{_≡_, ap, sym, subst, _∙_}
-use native.Mathlib.Omega.{arith}
 use denote.Ref.{now}
 use Rattle.octets.proofs.Laws.Steps.{the}
 use Rattle.rules.specs.Reading.{judge}
+use Rattle.rules.specs.Summary.{sectionOf}
 use Rattle.rules.specs.declared.refusal.Refusal.{Refusal}
+use Rattle.rules.specs.declared.section.Section.{Section}
 use Rattle.rules.specs.declared.section.Summarized.the-variants.{Accepted, Refused}
 use Rattle.rules.proofs.Laws.Accepted.{summarize-passed, summarize-refused}
 use borrow.Author.Needs.{needs}
@@ -18,14 +19,21 @@ returns c =
     let some = subst (λ (x : Refusal). ¬ (x .number ≡ 0)) r (c .if1 .taken) in
     ap Refused r ∙ sym (summarize-refused (a .security-first) (now (a .s)) some)
 
-summary-at-requires : tie.Need-summary-at-requires
-summary-at-requires c κs = sym (ap (λ (x : Refusal). x .number) (the tie.After-judge (search) .judge .ensures)) ∙ c .if1 .left
+none : (c : tie.Else1) → judge (the tie.Start (search) .args .security-first) (now (the tie.Start (search) .args .s)) .number ≡ 0
+none c = sym (ap (λ (x : Refusal). x .number) (the tie.After-judge (search) .judge .ensures)) ∙ c .if1 .left
+
+header-at-requires : tie.Need-header-at-requires
+header-at-requires c κs = none (search)
+
+section-of-requires : tie.Need-section-of-requires
+section-of-requires c κs = (none (search), c .header-at .ensures)
 
 returns-2 : tie.Need-returns-2
+unfolding sectionOf
 returns-2 c =
     let a = the tie.Start (search) .args in
-    let none = sym (ap (λ (x : Refusal). x .number) (the tie.After-judge (search) .judge .ensures)) ∙ the tie.Else1 (search) .if1 .left in
-    ap Accepted (c .summary-at .ensures) ∙ sym (summarize-passed (a .security-first) (now (a .s)) none)
+    let summary = ap (λ (x : Section). x .summary) (the tie.After-section-of (search) .section-of .ensures) in
+    ap Accepted summary ∙ sym (summarize-passed (a .security-first) (now (a .s)) (none (search)))
 
 pub summarize-spec : {M : Type 1} → statement M
 summarize-spec =
@@ -33,5 +41,6 @@ summarize-spec =
     (tie.spec
     (λ c κs. search needs)
     returns
-    summary-at-requires
+    header-at-requires
+    section-of-requires
     returns-2)

@@ -1,4 +1,4 @@
--- Each field is the number that its read promises; numbers of 16 and 32 bits are small.
+-- All zero where the fixed bytes are not all there, else the fields that are.
 use mathlib.Core.Path.{ap, subst, sym, _∙_}
 use denote.Ref.{now}
 use native.Mathlib.Omega.{arith}
@@ -23,18 +23,9 @@ returns c =
     )
 
 returns-2 : tie.Need-returns-2
-unfolding securityFields
 returns-2 c = (
-  rw (security-read (now (the tie.Start (search) .args .s)) (omega arith))
-      (simp (
-        ← the tie.After-u16-in (search) .u16-in .ensures,
-        ← the tie.After-u16-in2 (search) .u16-in2 .ensures,
-        ← the tie.After-u16-in3 (search) .u16-in3 .ensures,
-        ← the tie.After-u16-in4 (search) .u16-in4 .ensures,
-        ← the tie.After-u32-in (search) .u32-in .ensures,
-        ← c .u32-in2 .ensures,
-      )),
-  omega arith,
+  c .fields-of .ensures .0 ∙ sym (security-read (now (the tie.Start (search) .args .s)) (omega arith)),
+  c .fields-of .ensures .1,
 )
 
 pub security-fields-spec : {M : Type 1} → statement M
@@ -44,15 +35,4 @@ security-fields-spec =
     (λ c κs. search needs)
     returns
     (λ c κs. search needs)
-    (λ c. search needs)
-    (λ c κs. search needs)
-    (λ c. search needs)
-    (λ c κs. search needs)
-    (λ c. search needs)
-    (λ c κs. search needs)
-    (λ c. search needs)
-    (λ c κs. search needs)
-    (λ c. search needs)
-    (λ c κs. search needs)
-    (λ c. search needs)
     returns-2)

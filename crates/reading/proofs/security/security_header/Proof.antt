@@ -13,7 +13,7 @@ use Rattle.rules.specs.Reading.{headerAt, securityHeader}
 use Rattle.rules.specs.Security.{ST, securityFields, securityParts}
 use Rattle.rules.specs.declared.security.SecurityFields.{SecurityFields}
 use Rattle.rules.specs.declared.security.SecurityParts.{SecurityParts}
-use Rattle.reading.proofs.Laws.Fields.{HeaderBytes, header-bytes, security-read}
+use Rattle.reading.proofs.Laws.Fields.{HeaderBytes, header-bytes}
 use borrow.Author.Needs.{needs}
 use Rattle.reading.proofs.security.security_header.Statement.{statement}
 use Rattle.reading.proofs.security.security_header.Tie as tie
@@ -27,13 +27,15 @@ shared-slice-read-sid-byte c = omega (arith, bytes-of (search) .room)
 shared-slice-read-sid-byte-2 : tie.Need-shared-slice-read-sid-byte-2
 shared-slice-read-sid-byte-2 c = omega (arith, bytes-of (search) .room)
 
-input : tie.After-security-fields → List ℕ
+fields-of-requires : tie.Need-fields-of-requires
+fields-of-requires c κs = omega (arith, bytes-of (search) .room)
+
+input : tie.After-fields-of → List ℕ
 input c = now (the tie.Start (search) .args .s)
 
-fields : (c : tie.After-security-fields) → c .security-fields .result ≡ securityFields (input c)
+fields : (c : tie.After-fields-of) → c .fields-of .result ≡ securityFields (input c)
 unfolding input
-fields c =
-    c .security-fields .ensures .0 ∙ security-read (now (the tie.Start (search) .args .s)) (omega (arith, bytes-of (search) .room))
+fields c = c .fields-of .ensures .0
 
 parts : (c : tie.After-security-parts) → c .security-parts .result ≡ securityParts (securityFields (input (c .before)))
 parts c = c .security-parts .ensures ∙ ap securityParts (fields (c .before))
@@ -75,7 +77,7 @@ pub security-header-spec : {M : Type 1} → statement M
 security-header-spec =
     tie.close
     (tie.spec
-    (λ c κs. search needs)
+    fields-of-requires
     (λ c κs. search needs)
     shared-slice-read-sid-byte
     (λ c κs. search needs)

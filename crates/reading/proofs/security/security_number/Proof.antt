@@ -1,5 +1,5 @@
 -- Each return is the first of S1 to S11 whose test holds.
-use Prim.Native.Nat.{ℕ, _+_, _≤_, _<_, min}
+use Prim.Native.Nat.{ℕ, _≤_, _<_}
 use mathlib.Core.List.{List}
 use mathlib.Core.Path.{_≡_, ap, sym, subst, _∙_}
 use native.Mathlib.Omega.{arith}
@@ -11,7 +11,6 @@ use Rattle.rules.specs.Refusal.{firstOf, limit}
 use Rattle.rules.specs.Security.{readSecurity, securityContents, securityFields, securityLength, securityParts, securitySteps}
 use Rattle.rules.specs.Summary.{partOf}
 use Rattle.rules.specs.declared.security.SecurityFields.{SecurityFields}
-use Rattle.reading.proofs.Laws.Fields.{security-read}
 use borrow.Author.Needs.{needs}
 use Rattle.reading.proofs.security.security_number.Statement.{statement}
 use Rattle.reading.proofs.security.security_number.Tie as tie
@@ -21,12 +20,12 @@ unfolding securityNumber readSecurity
 returns c = search steps depth 20
 
 -- what the steps look at is what the definitions read
-entry : tie.After-security-fields → List ℕ
+entry : tie.After-fields-of → List ℕ
 entry c = now (the tie.Start (search) .args .s)
 
-fields : (c : tie.After-security-fields) → c .security-fields .result ≡ securityFields (entry c)
+fields : (c : tie.After-fields-of) → c .fields-of .result ≡ securityFields (entry c)
 unfolding entry
-fields c = c .security-fields .ensures .0 ∙ security-read (now (the tie.Start (search) .args .s)) (omega arith)
+fields c = c .fields-of .ensures .0
 
 steps-told : (c : tie.After-security-steps) → c .security-steps .result ≡ securitySteps (securityFields (entry (c .before)))
 unfolding entry
@@ -36,10 +35,9 @@ returns-2 : tie.Need-returns-2
 unfolding entry securityNumber readSecurity firstOf
 returns-2 c = let n = steps-told (search) in search (steps, told) depth 20
 
-length-told : (c : tie.After-security-length)
-    → c .security-length .result .0 ≡ min (limit + 1) (securityLength (securityFields (entry (c .before .before .before))))
-unfolding entry
-length-told c = c .security-length .ensures ∙ ap (λ (f : SecurityFields). min (limit + 1) (securityLength f)) (fields (c .before .before .before))
+length-told : (c : tie.After-length-of)
+    → c .length-of .result .0 ≡ securityLength (securityFields (entry (c .before .before .before)))
+length-told c = c .length-of .ensures ∙ ap securityLength (fields (c .before .before .before))
 
 returns-3 : tie.Need-returns-3
 unfolding entry securityNumber readSecurity firstOf

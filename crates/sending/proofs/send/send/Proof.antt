@@ -8,12 +8,13 @@ use borrow.Author.Needs.{needs}
 use lib.ListN.{getD}
 use lib.Seq.{length-take-le}
 use Rattle.octets.proofs.Laws.Steps.{the}
+use Rattle.rules.specs.Output.{writerOutput}
 use Rattle.requests.specs.Request.{SendRequest}
 use Rattle.requests.specs.Section.{labelWith}
 use Rattle.requests.proofs.Laws.Provider.{info-small}
 use Rattle.writing.specs.Given.{Given}
 use Rattle.writing.specs.Writing.{writeAnswer, writeBytes}
-use Rattle.sending.specs.Send.{answerAfter, bytesAfter, sendAnswer, sendBytes}
+use Rattle.sending.specs.Send.{answerAfter, sendAnswer, sendBytes}
 use Rattle.sending.proofs.Laws.Send.{Gets, Sent, gets, given-made, held, legal-sent}
 use Rattle.sending.proofs.send.send.Statement.{statement}
 use Rattle.sending.proofs.send.send.Tie as tie
@@ -65,7 +66,7 @@ returns-2 c =
     let g = got known in
     let made =
     given-made (asked (start known)) _ _ (start known .args .correlation-id) (g .made) (first .security-first .ensures)
-    (cut .before .before .section-values .ensures) (cut .before .correlation-of .ensures) (cut .within .ensures ∙ g .signature)
+    (cut .before .before .correlation-of .ensures) (cut .before .section-values .ensures) (cut .within .ensures ∙ g .signature)
     (held _ (titled .write-label .ensures) ∙ ap labelWith (g .title)) (g .body) in
     let out = now (start known .args .out) in (
       written .0 ∙ ap (λ (x : Given). writeAnswer x out) made ∙ sent known .0,
@@ -73,7 +74,7 @@ returns-2 c =
     )
 
 pub send-spec : {M : Type 1} → statement M
-unfolding answerAfter bytesAfter sendAnswer sendBytes
+unfolding answerAfter sendAnswer sendBytes writerOutput
 send-spec =
     tie.close
     (tie.spec
@@ -86,8 +87,8 @@ send-spec =
     (λ c. got (search) .units)
     (λ c. search needs)
     (λ c κs. let g = got (search) in omega (arith, g .units, g .small))
-    (λ c κs. let g = got (search) in (g .kind, (g .acknowledge, g .class)))
     (λ c κs. search needs)
+    (λ c κs. let g = got (search) in (g .kind, (g .acknowledge, g .class)))
     (λ c κs. search needs)
     (λ c. omega (arith, label-small (search)))
     (λ c. let w = the tie.After-write-label (search) .write-label in sym (length-take-le (w .result .0) (w .last .1 .0) (omega (arith, label-small (search)))))

@@ -1,7 +1,7 @@
 -- The answer of reading picks the case.
-use Rattle.queues.specs.Read.{readImage}
 use Rattle.ugbariteyo.specs.Queue.{imageAnswer}
 use borrow.Author.Needs.{needs}
+use Rattle.ugbariteyo.proofs.Laws.Queue.{answer-again}
 use Rattle.ugbariteyo.proofs.queue.ugb_read_image.Statement.{statement}
 use Rattle.ugbariteyo.proofs.queue.ugb_read_image.Tie as tie
 
@@ -22,7 +22,7 @@ no-part-requires-2 c κs = search needs
 
 returns : tie.Need-returns
 unfolding imageAnswer
-returns c = simp (← c .before .before .before .before .before .before .read-image .ensures, c .before .before .before .before .refusal .given .1, c .before .before .new .ensures, c .before .no-part .ensures, c .no-part2 .ensures)
+returns c = answer-again _ _ (simp (← c .before .before .before .before .before .before .read-image .ensures, c .before .before .before .before .refusal .given .1, c .before .before .new .ensures, c .before .no-part .ensures, c .no-part2 .ensures))
 
 enum-known-image : tie.Need-enum-known-image
 enum-known-image c = search needs
@@ -32,7 +32,7 @@ no-refusal-requires c κs = search needs
 
 returns-2 : tie.Need-returns-2
 unfolding imageAnswer
-returns-2 c = simp (← c .before .before .before .before .before .before .before .read-image .ensures, c .before .before .before .before .before .image .given .1, c .no-refusal .ensures)
+returns-2 c = answer-again _ _ (simp (← c .before .before .before .before .before .before .before .read-image .ensures, c .before .before .before .before .before .image .given .1, c .no-refusal .ensures))
 
 pub ugb-read-image-spec : {M : Type 1} → statement M
 ugb-read-image-spec =

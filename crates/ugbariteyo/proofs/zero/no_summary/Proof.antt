@@ -1,8 +1,18 @@
--- All numbers are 0.
-use Rattle.ugbariteyo.specs.Zero.{noSummary}
+-- All numbers are 0, and neither verdict fails.
+use mathlib.Core.Path.{_≡_, refl}
+use mathlib.Core.Bool.{false}
+use Rattle.octets.specs.Number.{le}
+use Rattle.rules.specs.Listed.{listed, privacyLevels}
+use Rattle.rules.specs.Properties.{propertiesFields}
+use Rattle.rules.specs.Summary.{authenticationFails, decryptionFails, noSecurity, summaryOf}
+use Rattle.ugbariteyo.specs.Zero.{noProperties, noSummary}
 use borrow.Author.Needs.{needs}
 use Rattle.ugbariteyo.proofs.zero.no_summary.Statement.{statement}
 use Rattle.ugbariteyo.proofs.zero.no_summary.Tie as tie
+
+verdicts : (authenticationFails (noSecurity .fields) noProperties ≡ false) × (decryptionFails (noSecurity .fields) noProperties ≡ false)
+unfolding authenticationFails decryptionFails noSecurity noProperties propertiesFields le listed privacyLevels
+verdicts = (refl, refl)
 
 no-part-requires : tie.Need-no-part-requires
 no-part-requires c κs = search needs
@@ -14,8 +24,8 @@ no-properties-requires : tie.Need-no-properties-requires
 no-properties-requires c κs = search needs
 
 returns : tie.Need-returns
-unfolding noSummary
-returns c = simp (c .before .before .no-part .ensures, c .before .no-security .ensures, c .no-properties .ensures)
+unfolding noSummary summaryOf
+returns c = simp (c .before .before .no-part .ensures, c .before .no-security .ensures, c .no-properties .ensures, verdicts .0, verdicts .1)
 
 pub no-summary-spec : {M : Type 1} → statement M
 no-summary-spec =

@@ -19,7 +19,7 @@ use Rattle.writing.proofs.section.judge.Tie as tie
 abbrev section : tie.Start → Given
 section c =
     let a = c .args in
-    given (a .values) [] (now (a .sender-id)) (now (a .encryption-key)) (now (a .signature)) (now (a .sender-cert)) (now (a .provider-info)) [] [] []
+    given (a .values) (now (a .sender-id)) (now (a .encryption-key)) (now (a .signature)) (now (a .sender-cert)) (now (a .provider-info)) [] [] []
 
 number-told : (c : tie.After-header-number)
     → let start = the tie.Start (search) in

@@ -17,7 +17,7 @@ use Rattle.rules.specs.Security.{securityRow}
 use Rattle.rules.specs.declared.properties.PropertiesFields.{PropertiesFields}
 use Rattle.rules.specs.declared.security.SecurityFields.{SecurityFields}
 use Rattle.writing.specs.Fixed.{PropertiesSized, SecuritySized}
-use Rattle.writing.specs.Given.{Given, fixed, given, propertiesGiven, securityGiven}
+use Rattle.writing.specs.Given.{Given, fixed, held, propertiesGiven, securityGiven}
 use Rattle.writing.specs.Writing.{paddedPart, propertiesBytes, propertiesFixed, sectionBytes, securityBytes, securityFixed, securityPartsBytes}
 use borrow.Author.Needs.{needs}
 use Rattle.writing.proofs.section.write_headers.Statement.{statement}
@@ -25,7 +25,9 @@ use Rattle.writing.proofs.section.write_headers.Tie as tie
 
 -- the section that is written
 abbrev section : tie.Start → Given
-section c = let a = c .args in given (a .values) (a .correlation-id) (now (a .sender-id)) (now (a .encryption-key)) (now (a .signature)) (now (a .sender-cert)) (now (a .provider-info)) (now (a .label)) (now (a .extension)) (now (a .body))
+section c =
+    let a = c .args in
+    held (a .values) (a .sender-id) (a .encryption-key) (a .signature) (a .sender-cert) (a .provider-info) (a .label) (a .extension) (a .body)
 
 -- what stands first, by a test that was made
 headed : {first : Bool} {now : List ℕ} (b : Bool) (bs out : List ℕ) → first ≡ b → now ≡ over (cond b bs []) out → now ≡ over (cond first bs []) out
@@ -83,7 +85,7 @@ write-properties-requires c κs =
 
 -- the MessagePropertiesHeader of fields that are those given
 properties-written : (g : Given) (f : PropertiesFields) (out now : List ℕ) → f ≡ propertiesGiven g
-    → now ≡ over (paddedPart (rowBytes propertiesRow (fixed f (g .correlationId) (g .values .«application_tag»)) ++ (g .label ++ (g .extension ++ g .body)))) out
+    → now ≡ over (paddedPart (rowBytes propertiesRow (fixed f (g .values .«correlation_id») (g .values .«application_tag»)) ++ (g .label ++ (g .extension ++ g .body)))) out
     → now ≡ over (propertiesBytes g) out
 unfolding propertiesBytes propertiesFixed
 properties-written g f out now e w = rw (← e) w

@@ -1,31 +1,39 @@
 -- The refusal, or what follows where no step but 13 refuses.
 use denote.Ref.{now}
-use mathlib.Core.Path.{sym, ap, _∙_}
+use mathlib.Core.Path.{_≡_, sym, ap, _∙_}
 use borrow.Author.Tests.{ne-eqb}
 use Rattle.octets.proofs.Laws.Steps.{the}
+use Rattle.rules.specs.Output.{writerOutput}
 use Rattle.rules.specs.declared.refusal.Refusal.{Refusal}
-use Rattle.writing.specs.Given.{Given, given}
-use Rattle.writing.specs.Writing.{writeAnswer, writeBytes}
+use Rattle.rules.specs.declared.section.Output.{Output}
+use Rattle.rules.specs.declared.section.Output.the-variants.{Refused}
+use Rattle.writing.specs.Given.{Given, held}
+use Rattle.writing.specs.Writing.{sectionBytes, writeAnswer, writeBytes, writeRefusal}
 use borrow.Author.Needs.{needs}
 use Rattle.writing.proofs.section.write_section.Statement.{statement}
 use Rattle.writing.proofs.section.write_section.Tie as tie
 
 -- the section that is to be written
 abbrev section : tie.Start → Given
-section c = let a = c .args in given (a .values) (a .correlation-id) (now (a .sender-id)) (now (a .encryption-key)) (now (a .signature)) (now (a .sender-cert)) (now (a .provider-info)) (now (a .label)) (now (a .extension)) (now (a .body))
+section c =
+    let a = c .args in
+    held (a .values) (a .sender-id) (a .encryption-key) (a .signature) (a .sender-cert) (a .provider-info) (a .label) (a .extension) (a .body)
 
 returns : tie.Need-returns
-unfolding writeAnswer writeBytes
+unfolding writeAnswer writeBytes writerOutput
 returns c =
-    let judged = the tie.After-judge (search) .judge .ensures in
-    let some = ne-eqb _ 0 (c .if1 .taken) in
-    (rw (← judged, some), rw (← judged, some))
+    let judged = the tie.After-judge (search) .judge in
+    let start = the tie.Start (search) in
+    let g = section start in
+    let out = now (start .args .out) in
+    let some = ne-eqb (writeRefusal g .number) 0 (λ e. c .if1 .taken (ap (λ (r : Refusal). r .number) (judged .ensures) ∙ e)) in
+    let answer : Refused (judged .result) ≡ writeAnswer g out = rw some (ap Refused (judged .ensures)) in
+    (answer, ap (λ (a : Output). writerOutput a (sectionBytes g) out) answer)
 
 write-judged-requires : tie.Need-write-judged-requires
 write-judged-requires c κs =
     let judged = the tie.After-judge (search) .judge .ensures in
-    let none = the tie.Else1 (search) .if1 .left in
-    (ap (λ (r : Refusal). r .number) (sym judged) ∙ none, ap (λ (r : Refusal). r .place) (sym judged))
+    sym judged ∙ λ i. record { number = the tie.Else1 (search) .if1 .left i; place = the tie.After-judge (search) .judge .result .place }
 
 pub write-section-spec : {M : Type 1} → statement M
 write-section-spec =

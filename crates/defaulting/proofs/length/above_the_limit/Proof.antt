@@ -1,0 +1,55 @@
+-- The section is as long as its headers, whose lengths depend on their sizes alone; a SecurityHeader above the limit decides by itself.
+use mathlib.Core.Path.{ap, refl, sym, _∙_}
+use borrow.Author.Needs.{needs}
+use borrow.Author.Tests.{not-false, not-true}
+use lib.Dec.{ltb}
+use Rattle.octets.proofs.Laws.Steps.{the}
+use Rattle.rules.specs.Refusal.{limit}
+use Rattle.requests.specs.Section.{propertiesFieldsOf, securityFieldsOf}
+use Rattle.requests.proofs.Laws.Section.{above-alone, length-bare, length-secured, same-properties, same-security}
+use Rattle.defaulting.proofs.length.above_the_limit.Statement.{statement}
+use Rattle.defaulting.proofs.length.above_the_limit.Tie as tie
+
+returns : tie.Need-returns
+unfolding propertiesFieldsOf
+returns c =
+    let f = the tie.After-security-first (search) .security-first in
+    c .ends-above .ensures
+    ∙ ap (ltb limit)
+    (length-bare _ _ (sym (f .ensures) ∙ not-true (f .result) (the tie.Then1 (search) .if1 .taken))
+    (same-properties _ _ (the tie.After-label-units (search) .label-units .ensures) (the tie.After-body-size (search) .body-size .ensures) refl))
+
+returns-2 : tie.Need-returns-2
+unfolding securityFieldsOf
+returns-2 c =
+    let f = the tie.After-security-first (search) .security-first in
+    above-alone _ _ _ (the tie.After-security-length (search) .security-length .ensures) (the tie.Then2 (search) .if2 .taken)
+    (sym (f .ensures) ∙ not-false (f .result) (the tie.Else1 (search) .if1 .left))
+    (same-security _ _ refl refl (the tie.After-kept-bytes (search) .kept-bytes .ensures .1) refl (the tie.After-provider-info-size (search) .provider-info-size .ensures))
+
+returns-3 : tie.Need-returns-3
+unfolding propertiesFieldsOf securityFieldsOf
+returns-3 c =
+    let f = the tie.After-security-first (search) .security-first in
+    c .ends-above2 .ensures
+    ∙ ap (ltb limit)
+    (length-secured _ _ _ _ (the tie.After-security-length (search) .security-length .ensures) (the tie.Else2 (search) .if2 .left)
+    (sym (f .ensures) ∙ not-false (f .result) (the tie.Else1 (search) .if1 .left))
+    (same-security _ _ refl refl (the tie.After-kept-bytes (search) .kept-bytes .ensures .1) refl (the tie.After-provider-info-size (search) .provider-info-size .ensures))
+    (same-properties _ _ (the tie.After-label-units (search) .label-units .ensures) (the tie.After-body-size (search) .body-size .ensures) refl))
+
+pub above-the-limit-spec : {M : Type 1} → statement M
+above-the-limit-spec =
+    tie.close
+    (tie.spec
+    (λ c κs. search needs)
+    (λ c κs. search needs)
+    (λ c κs. search needs)
+    (λ c κs. search needs)
+    returns
+    (λ c κs. search needs)
+    (λ c κs. search needs)
+    (λ c κs. search needs)
+    returns-2
+    (λ c κs. search needs)
+    returns-3)

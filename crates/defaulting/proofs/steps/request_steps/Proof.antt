@@ -1,0 +1,91 @@
+-- Each return is that of the first step that fails. From two places on, the steps before them are passed at once.
+use Prim.Native.Nat.{ℕ}
+use denote.Ref.{now}
+use mathlib.Core.Path.{_≡_, _∙_}
+use borrow.Author.Needs.{needs}
+use lib.ListN.{drop}
+use Rattle.octets.proofs.Laws.Steps.{answers, call-false, call-true, passed, the}
+use Rattle.rules.specs.declared.refusal.Checked.{Checked}
+use Rattle.rules.specs.declared.refusal.Checked.the-variants.{Passed}
+use Rattle.requests.specs.Request.{SendRequest}
+use Rattle.requests.specs.Steps.{firstFailure, refused, requestSteps, steps}
+use Rattle.defaulting.proofs.steps.request_steps.Statement.{statement}
+use Rattle.defaulting.proofs.steps.request_steps.Tie as tie
+
+-- every test is a call
+ruleset calls = (passed, answers, call-true, call-false)
+
+-- the request that the function was given
+asked : tie.Start → SendRequest
+asked c =
+    let a = c .args in
+    record {
+      values = a .request;
+      title = now (a .title);
+      senderId = now (a .sender-id);
+      encryptionKey = now (a .encryption-key);
+      signature = now (a .signature);
+      senderCert = now (a .sender-cert);
+      providerName = now (a .provider-name);
+      extension = now (a .extension);
+      body = now (a .body);
+    }
+
+-- the first k steps are passed: the answer is that of the others
+abbrev Past : ℕ → Type 0
+Past k = (q : SendRequest) × ((r : Checked) → r ≡ firstFailure (drop k (steps q)) → r ≡ requestSteps q)
+
+past-none : tie.Start → Past 0
+unfolding requestSteps
+past-none c = (asked c, λ r e. e)
+
+past-direct : tie.After-algorithm-missing → Past 4
+unfolding asked past-none steps firstFailure
+past-direct c = let p = past-none (search) in (p .0, λ r e. p .1 r (search calls depth 20))
+
+past-provider : tie.After-split-fails → Past 8
+unfolding asked past-none past-direct steps firstFailure
+past-provider c = let p = past-direct (search) in (p .0, λ r e. p .1 r (search calls depth 20))
+
+pub request-steps-spec : {M : Type 1} → statement M
+unfolding asked past-none past-direct past-provider steps firstFailure
+request-steps-spec =
+    tie.close
+    (tie.spec
+    (λ c κs. search needs)
+    (λ c κs. search needs)
+    (λ c κs. search needs)
+    (λ c κs. search needs)
+    (λ c κs. search needs)
+    (λ c κs. search needs)
+    (λ c κs. search needs)
+    (λ c κs. search needs)
+    (λ c κs. search needs)
+    (λ c κs. search needs)
+    (λ c κs. search needs)
+    (λ c κs. search needs)
+    (λ c κs. search needs)
+    (λ c κs. search needs)
+    (λ c κs. search needs)
+    (λ c κs. search needs)
+    (λ c κs. search needs)
+    (λ c κs. search needs)
+    (λ c κs. search needs)
+    (λ c κs. search needs)
+    (λ c κs. search needs)
+    (λ c κs. search needs)
+    (λ c κs. search needs)
+    (λ c κs. search needs)
+    (λ c. (search) ∙ past-none (search) .1 (refused 20) (search calls depth 20))
+    (λ c. (search) ∙ past-none (search) .1 (refused 10) (search calls depth 20))
+    (λ c. (search) ∙ past-none (search) .1 (refused 21) (search calls depth 20))
+    (λ c. (search) ∙ past-none (search) .1 (refused 22) (search calls depth 20))
+    (λ c. (search) ∙ past-direct (search) .1 (refused 23) (search calls depth 20))
+    (λ c. (search) ∙ past-direct (search) .1 (refused 24) (search calls depth 20))
+    (λ c. (search) ∙ past-direct (search) .1 (refused 25) (search calls depth 20))
+    (λ c. (search) ∙ past-direct (search) .1 (refused 26) (search calls depth 20))
+    (λ c. (search) ∙ past-provider (search) .1 (refused 27) (search calls depth 20))
+    (λ c. (search) ∙ past-provider (search) .1 (refused 28) (search calls depth 20))
+    (λ c. (search) ∙ past-provider (search) .1 (refused 11) (search calls depth 20))
+    (λ c. (search) ∙ past-provider (search) .1 (refused 8) (search calls depth 20))
+    (λ c. past-provider (search) .1 Passed (search calls depth 20)))

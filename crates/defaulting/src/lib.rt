@@ -1,0 +1,4 @@
+// Send requests checked in 01's order, and given their defaults.
+pub mod defaulted;
+mod length;
+mod steps;

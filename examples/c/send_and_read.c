@@ -1,0 +1,86 @@
+/* Sends a signed message and does with its section what receivers do: reads it back, makes its support copy, writes it
+ * again, and lists it as a record of a day's file. Prints what each call answered. */
+#include <stdio.h>
+#include <stdlib.h>
+#include <string.h>
+
+#include "ugbariteyo.h"
+
+static uint8_t section[1024], copy[1024], again[1024], file[8 + 1024];
+
+static void accepted(const char *what, ugb_refusal refusal)
+{
+    if (refusal.number == UGB_ACCEPTED)
+        return;
+    printf("%s: refused %u at %zu: %s\n", what, (unsigned)refusal.number, refusal.place,
+           ugb_refusal_text(refusal.number));
+    exit(1);
+}
+
+static ugb_sent send_signed(void)
+{
+    static const uint16_t title[] = {'R', 'e', 's', 'u', 'l', 't', 's'};
+    static const uint16_t provider[] = {'S', 'i', 'g', 'n', 'e', 'r'};
+    static const uint8_t signature[64] = {1, 2, 3}, body[100] = {4, 5, 6};
+    const ugb_request request = {
+        .application_tag = {true, 7},
+        .hash_algorithm = {true, 0x8003},
+        .provider_type = {true, 1},
+        .correlation_given = true,
+        .correlation_id = {8, 9, 10},
+        .body_given = true,
+        .allocation_body_size = sizeof body,
+    };
+    const ugb_request_parts parts = {
+        .title = {title, 7},
+        .signature = {signature, sizeof signature},
+        .provider_name = {provider, 6},
+        .body = {body, sizeof body},
+    };
+    return ugb_send(&request, &parts, section, sizeof section);
+}
+
+static size_t write_again(const ugb_section *read)
+{
+    const ugb_section_values values = ugb_values_of(read, section);
+    const ugb_section_parts parts = ugb_parts_of(read, section);
+    ugb_output written = ugb_write_section(&values, &parts, again, sizeof again);
+    accepted("write", written.refusal);
+    return written.length;
+}
+
+/* A file of one record. */
+static ugb_record list_one(size_t length, bool security_first)
+{
+    const uint8_t head[8] = {0x57, 0x52, security_first, 0, (uint8_t)length, (uint8_t)(length >> 8)};
+    memcpy(file, head, sizeof head);
+    memcpy(file + sizeof head, section, length);
+    return ugb_next_record(file, sizeof head + length);
+}
+
+int main(void)
+{
+    ugb_sent sent = send_signed();
+    accepted("send", sent.refusal);
+    printf("sent: %zu bytes, with%s SecurityHeader\n", sent.length, sent.security_first ? " a" : "out a");
+
+    ugb_reading reading = ugb_read(section, sent.length, sent.security_first);
+    accepted("read", reading.refusal);
+    const ugb_summary *summary = &reading.section.summary;
+    printf("read: tag %u, label of %u units, signature of %zu bytes, body of %zu\n",
+           (unsigned)reading.section.application_tag, (unsigned)summary->properties.label_length,
+           summary->security.parts.signature.length, summary->parts.body.length);
+
+    ugb_output copied = ugb_support_copy(section, sent.length, sent.security_first, copy, sizeof copy);
+    accepted("copy", copied.refusal);
+    printf("copied: %zu bytes, %s summary\n", copied.length,
+           ugb_same_summary(section, sent.length, copy, copied.length, sent.security_first) ? "the same" : "another");
+
+    size_t written = write_again(&reading.section);
+    printf("written: %zu bytes, %s\n", written, memcmp(section, again, written) == 0 ? "the same" : "others");
+
+    ugb_record record = list_one(sent.length, sent.security_first);
+    accepted("list", record.refusal);
+    printf("listed: %zu bytes, body of %zu\n", record.section_length, record.message_size);
+    return 0;
+}

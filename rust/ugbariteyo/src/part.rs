@@ -1,0 +1,57 @@
+//! Parts: where something lies in the input.
+
+use crate::ffi;
+
+/// Where a part lies in the input, in bytes.
+#[derive(Debug, Clone, Copy, PartialEq, Eq, Hash, Default)]
+pub struct Part {
+    /// The offset of its first byte.
+    pub start: usize,
+    /// How many bytes it has.
+    pub length: usize,
+}
+
+impl Part {
+    /// The bytes of this part of `input`, or `None` where it does not lie in it: it was read from another one.
+    ///
+    /// ```
+    /// use ugbariteyo::Part;
+    ///
+    /// let part = Part { start: 1, length: 2 };
+    /// assert_eq!(part.of(b"abcd"), Some(&b"bc"[..]));
+    /// assert_eq!(part.of(b"ab"), None);
+    /// ```
+    #[inline]
+    pub fn of(self, input: &[u8]) -> Option<&[u8]> {
+        input.get(self.start..)?.get(..self.length)
+    }
+}
+
+impl From<ffi::Part> for Part {
+    #[inline]
+    fn from(part: ffi::Part) -> Self {
+        Self { start: part.start, length: part.length }
+    }
+}
+
+// The three functions below are the only ones of the crate that can panic, and they cannot: they are called with an
+// accepted answer and what the library was lent for it, and it is proved to answer with parts that lie in what was lent
+// and have their type's length.
+
+/// The bytes of a part that the library found in `input`.
+#[inline]
+pub(crate) fn found(part: ffi::Part, input: &[u8]) -> &[u8] {
+    Part::from(part).of(input).expect("a part that was found lies in its input")
+}
+
+/// The bytes of a part that has `N` of them.
+#[inline]
+pub(crate) fn all_of<const N: usize>(found: &[u8]) -> &[u8; N] {
+    found.try_into().expect("a part that was found has its type's length")
+}
+
+/// The units of a text that are kept.
+#[inline]
+pub(crate) fn kept(units: u32, text: &[u16]) -> &[u16] {
+    text.get(..units as usize).expect("no more is kept than was given")
+}

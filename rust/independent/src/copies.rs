@@ -28,7 +28,7 @@ pub fn copy_day(file: &[u8]) -> Copies {
 pub fn copy_section(input: &[u8], security_first: bool) -> Copies {
     if input.len() > INPUT_MOST {
         let said = format!(
-            "the input is longer than {INPUT_MOST} bytes, and this program reads no more: nothing was copied\n"
+            "the input is longer than {INPUT_MOST} bytes, and this program reads no more; a section has at most 4,194,304\n"
         );
         return Copies { output: vec![], said };
     }

@@ -4,8 +4,15 @@ use std::env;
 use std::path::{Path, PathBuf};
 use std::process::{exit, Command};
 
-const SOURCES: [&str; 6] =
-    ["tuned/read.c", "tuned/copy.c", "tuned/write.c", "c/agree.c", "c/loops.c", "c/samples.c"];
+const SOURCES: [&str; 7] = [
+    "tuned/read.c",
+    "tuned/copy.c",
+    "tuned/write.c",
+    "tuned/image.c",
+    "c/agree.c",
+    "c/loops.c",
+    "c/samples.c",
+];
 /// Loops over blocks stay as they are written; gcc would make `rep stos` of them.
 const FLAGS: [&str; 7] = [
     "-std=gnu11",

@@ -39,6 +39,11 @@ static bool same_reading(const ugb_reading *a, const ugb_reading *b)
            SAME_BYTES(section.correlation_id) && SAME(section.application_tag);
 }
 
+static bool same_image(const ugb_image_read *a, const ugb_image_read *b)
+{
+    return same_refusal(&a->refusal, &b->refusal) && SAME_BYTES(format) && SAME_BYTES(fixed) && SAME_BYTES(text);
+}
+
 static bool same_output(const ugb_output *a, const ugb_output *b)
 {
     return same_refusal(&a->refusal, &b->refusal) && SAME(length);
@@ -71,5 +76,20 @@ bool writings_agree(const given *l, uint8_t *out, uint8_t *tuned_out, size_t len
     fill(out, tuned_out, length);
     ugb_output library = ugb_write_section(l->values, &l->parts, out, length);
     ugb_output tuned = write_given(tuned_write_section, l, tuned_out, length);
+    return same_output(&library, &tuned) && memcmp(out, tuned_out, length) == 0;
+}
+
+bool image_reads_agree(const ugb_bytes *l)
+{
+    ugb_image_read library = ugb_read_image(l->bytes, l->length), tuned;
+    tuned_read_image(&tuned, l->bytes, l->length);
+    return same_image(&library, &tuned);
+}
+
+bool image_writings_agree(const given_image *l, uint8_t *out, uint8_t *tuned_out, size_t length)
+{
+    fill(out, tuned_out, length);
+    ugb_output library = write_given_image(ugb_write_image, l, out, length);
+    ugb_output tuned = write_given_image(tuned_write_image, l, tuned_out, length);
     return same_output(&library, &tuned) && memcmp(out, tuned_out, length) == 0;
 }

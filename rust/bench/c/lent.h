@@ -22,16 +22,20 @@ LOOP_OF(write_section, given);
 LOOP_OF(send, void);
 LOOP_OF(defaulted, void);
 LOOP_OF(read_image, ugb_bytes);
-LOOP_OF(write_image, ugb_bytes);
+LOOP_OF(write_image, given_image);
 
 /* The tuned calls. */
 LOOP_OF(tuned_read, section);
 LOOP_OF(tuned_support_copy, section);
 LOOP_OF(tuned_write_section, given);
+LOOP_OF(tuned_read_image, ugb_bytes);
+LOOP_OF(tuned_write_image, given_image);
 
 /* Whether a tuned call answers as the library's, and leaves its output as the library's leaves its. */
 bool reads_agree(const section *l);
 bool copies_agree(const section *l, uint8_t *out, uint8_t *tuned_out, size_t length);
 bool writings_agree(const given *l, uint8_t *out, uint8_t *tuned_out, size_t length);
+bool image_reads_agree(const ugb_bytes *l);
+bool image_writings_agree(const given_image *l, uint8_t *out, uint8_t *tuned_out, size_t length);
 
 #endif

@@ -38,12 +38,14 @@ ANSWERED(write_section, given, ugb_output, ugb_write_section(l->values, &l->part
 ANSWERED(send, void, ugb_sent, send_sample(OUT))
 ANSWERED(defaulted, void, ugb_defaulted_answer, defaulted_sample())
 ANSWERED(read_image, ugb_bytes, ugb_image_read, ugb_read_image(l->bytes, l->length))
-ANSWERED(write_image, ugb_bytes, ugb_output,
-         ugb_write_image((ugb_queue_format){l->bytes[0], l->bytes[1]}, NULL, 0, l->bytes + 4, l->length - 4, OUT))
+ANSWERED(write_image, given_image, ugb_output, write_given_image(ugb_write_image, l, OUT))
 
 ANSWERED(tuned_support_copy, section, ugb_output, tuned_support_copy(SECTION, l->security_first, OUT))
 ANSWERED(tuned_write_section, given, ugb_output, write_given(tuned_write_section, l, OUT))
 LOOP(tuned_read, section, ugb_reading answer; tuned_read(&answer, SECTION, l->security_first),
+     looked_at(&answer.refusal))
+ANSWERED(tuned_write_image, given_image, ugb_output, write_given_image(tuned_write_image, l, OUT))
+LOOP(tuned_read_image, ugb_bytes, ugb_image_read answer; tuned_read_image(&answer, l->bytes, l->length),
      looked_at(&answer.refusal))
 
 LOOP(same_summary, section, bool answer = ugb_same_summary(SECTION, OUT, l->security_first), )

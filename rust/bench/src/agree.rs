@@ -2,13 +2,14 @@
 //! the one that Rust sends.
 
 use compare::library::section_values;
+use independent::queue::HEAD;
 
 use crate::c;
 use crate::refusals::Refused;
-use crate::samples::{RequestSample, Sample};
+use crate::samples::{image, RequestSample, Sample};
 
 /// Panics where a tuned call answers otherwise than the library: on these samples, in outputs long enough and a byte
-/// short, with a class that is not listed, and on every refused section.
+/// short, with a class that is not listed, on every refused section, and on images.
 pub fn check(samples: &[Sample]) {
     for sample in samples {
         let section = sample.section();
@@ -24,7 +25,26 @@ pub fn check(samples: &[Sample]) {
         let section = c::Section::new(&refused.section, refused.first);
         assert!(section.agrees(refused.section.len()), "tuned: {}", refused.what);
     }
+    check_images();
     check_request();
+}
+
+/// The sample's value behind every type, the next one too, with suffixes that go with some of them; whole and cut, and
+/// written to outputs long enough and a byte short.
+fn check_images() {
+    let value = &image()[HEAD..];
+    let formats = (0..=9)
+        .flat_map(|kind| [0x00, 0x81, 0x82, 0x83, 0x04, 0x84, 0x05, 0x10].map(|suffix| [kind, suffix]));
+    for format in formats {
+        let image = [&format, &[0; 2], value].concat();
+        let reads = (0..=image.len()).all(|length| c::Bytes::from(&image[..length]).image_agrees());
+        let writes = [0, 8, 16, 20].into_iter().all(|fixed| {
+            let (fixed, text) = value.split_at(fixed);
+            let given = [c::GivenImage::new(format, fixed, text), c::GivenImage::new(format, fixed, &[])];
+            given.iter().all(|given| given.agrees(image.len()) && given.agrees(image.len() - 1))
+        });
+        assert!(reads && writes, "tuned: an image of format {format:02X?}");
+    }
 }
 
 fn check_request() {

@@ -63,6 +63,21 @@ impl<'a> Given<'a> {
     }
 }
 
+/// What an image is written from.
+#[repr(C)]
+pub struct GivenImage<'a> {
+    format: [u8; 2],
+    fixed: Bytes<'a>,
+    text: Bytes<'a>,
+}
+
+impl<'a> GivenImage<'a> {
+    /// This type with its suffix and flags, and the two parts of its value.
+    pub fn new(format: [u8; 2], fixed: &'a [u8], text: &'a [u8]) -> Self {
+        Self { format, fixed: fixed.into(), text: text.into() }
+    }
+}
+
 /// What a call takes that makes its own request.
 #[repr(C)]
 pub struct Nothing(u8);
@@ -97,16 +112,20 @@ loops! {
     send(Nothing) = loop_send;
     defaulted(Nothing) = loop_defaulted;
     read_image(Bytes<'_>) = loop_read_image;
-    write_image(Bytes<'_>) = loop_write_image;
+    write_image(GivenImage<'_>) = loop_write_image;
     tuned_read(Section<'_>) = loop_tuned_read;
     tuned_support_copy(Section<'_>) = loop_tuned_support_copy;
     tuned_write_section(Given<'_>) = loop_tuned_write_section;
+    tuned_read_image(Bytes<'_>) = loop_tuned_read_image;
+    tuned_write_image(GivenImage<'_>) = loop_tuned_write_image;
 }
 
 extern "C" {
     fn reads_agree(section: &Section<'_>) -> bool;
     fn copies_agree(section: &Section<'_>, out: *mut u8, tuned_out: *mut u8, length: usize) -> bool;
     fn writings_agree(given: &Given<'_>, out: *mut u8, tuned_out: *mut u8, length: usize) -> bool;
+    fn image_reads_agree(image: &Bytes<'_>) -> bool;
+    fn image_writings_agree(given: &GivenImage<'_>, out: *mut u8, tuned_out: *mut u8, length: usize) -> bool;
 }
 
 impl Section<'_> {
@@ -127,11 +146,29 @@ impl Given<'_> {
     }
 }
 
+impl Bytes<'_> {
+    /// Whether the tuned reading of these bytes as an image is the library's.
+    pub fn image_agrees(&self) -> bool {
+        // SAFETY: as for the loops.
+        unsafe { image_reads_agree(self) }
+    }
+}
+
+impl GivenImage<'_> {
+    /// Whether the tuned writing into an output of this length is the library's.
+    pub fn agrees(&self, length: usize) -> bool {
+        let [mut out, mut tuned_out] = [vec![0; length], vec![0; length]];
+        // SAFETY: as for the loops.
+        unsafe { image_writings_agree(self, out.as_mut_ptr(), tuned_out.as_mut_ptr(), length) }
+    }
+}
+
 #[cfg(test)]
 mod tests {
-    use super::{Given, Section};
+    use super::{Bytes, Given, GivenImage, Section};
     use compare::library::{first, section_values};
-    use independent::generate::{case, section_values as generated_values, Random};
+    use independent::generate::{case, image, image_values, section_values as generated_values, Random};
+    use independent::queue::HEAD;
 
     const CASES: u64 = 20_000;
 
@@ -160,6 +197,42 @@ mod tests {
             let given = Given::new(&values);
             let agrees = [owned.room, owned.length(), owned.length() - 1].map(|length| given.agrees(length));
             assert_eq!(agrees, [true; 3], "{owned:02X?}");
+        }
+    }
+
+    #[test]
+    fn tuned_image_reading_agrees() {
+        let mut r = Random::new(3);
+        for _ in 0..CASES {
+            let image = image(&mut r);
+            assert!(Bytes::from(&image[..]).image_agrees(), "{image:02X?}");
+        }
+    }
+
+    #[test]
+    fn tuned_image_writing_agrees() {
+        let mut r = Random::new(4);
+        for _ in 0..CASES {
+            let values = image_values(&mut r);
+            let given = GivenImage::new([values.kind, values.suffix_and_flags], &values.fixed, &values.text);
+            let length = HEAD + values.fixed.len() + values.text.len();
+            let agrees = [values.room, length, length - 1].map(|length| given.agrees(length));
+            assert_eq!(agrees, [true; 3], "{values:02X?}");
+        }
+    }
+
+    #[test]
+    fn tuned_images_agree_on_every_format() {
+        const FIXED: [u8; 20] = [1; 20];
+        for format in (0..=u16::MAX).map(u16::to_le_bytes) {
+            for (length, text) in
+                [0, 8, 16, 20].into_iter().flat_map(|length| [(length, &b""[..]), (length, b"q\0\0\0")])
+            {
+                let fixed = &FIXED[..length];
+                let image = [&format, &[7, 9], fixed, text].concat();
+                assert!(Bytes::from(&image[..]).image_agrees(), "{image:02X?}");
+                assert!(GivenImage::new(format, fixed, text).agrees(image.len()), "{image:02X?}");
+            }
         }
     }
 }

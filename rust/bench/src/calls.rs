@@ -132,6 +132,7 @@ pub fn read_image() -> Row {
         (Library, taken(|| library::read_image(&image))),
         (FromC, from_c(|times| c::read_image(&lent, &mut [], times))),
         (PlainRust, taken(|| independent::queue::read_image(&image))),
+        (TunedC, from_c(|times| c::tuned_read_image(&lent, &mut [], times))),
     ];
     Row::timed("queue image read, direct name".into(), image.len(), calls)
 }
@@ -139,7 +140,7 @@ pub fn read_image() -> Row {
 /// Writing a queue format image.
 pub fn write_image() -> Row {
     let image = image();
-    let lent = c::Bytes::from(&image[..]);
+    let lent = c::GivenImage::new([image[0], image[1]], &[], &image[4..]);
     let read = library::read_image(&image).expect("the sample is legal");
     let out = Output::new(image.len());
     let calls = vec![
@@ -149,6 +150,7 @@ pub fn write_image() -> Row {
             PlainRust,
             out.written(|out| independent::queue::write_image(image[0], image[1], &[], &image[4..], out)),
         ),
+        (TunedC, out.lent(|out, times| c::tuned_write_image(&lent, out, times))),
     ];
     written("queue image write, direct name".into(), &out, calls)
 }

@@ -1,20 +1,8 @@
+#include "put.h"
 #include "steps.h"
 #include "tuned.h"
 
 typedef const uint8_t *parts[SECURITY_PARTS];
-
-static inline void put32(uint8_t *to, uint32_t number)
-{
-    memcpy(to, &number, sizeof number);
-}
-
-/* Without a call for nothing. */
-static inline uint8_t *put(uint8_t *to, const uint8_t *part, size_t length)
-{
-    if (length != 0)
-        memcpy(to, part, length);
-    return to + length;
-}
 
 static inline void put_security(uint8_t *out, const security *x, const parts parts)
 {

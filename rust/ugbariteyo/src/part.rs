@@ -25,6 +25,12 @@ impl Part {
     pub fn of(self, input: &[u8]) -> Option<&[u8]> {
         input.get(self.start..)?.get(..self.length)
     }
+
+    /// The `N` bytes of `input` from where this part starts, or `None` where there are not so many.
+    #[inline]
+    pub(crate) fn array_of<const N: usize>(self, input: &[u8]) -> Option<&[u8; N]> {
+        input.get(self.start..)?.first_chunk()
+    }
 }
 
 impl From<ffi::Part> for Part {
@@ -38,16 +44,16 @@ impl From<ffi::Part> for Part {
 // accepted answer and what the library was lent for it, and it is proved to answer with parts that lie in what was lent
 // and have their type's length.
 
+/// What was taken from parts that the library found.
+#[inline]
+pub(crate) fn present<T>(taken: Option<T>) -> T {
+    taken.expect("a part that was found lies in its input and has its type's length")
+}
+
 /// The bytes of a part that the library found in `input`.
 #[inline]
 pub(crate) fn found(part: ffi::Part, input: &[u8]) -> &[u8] {
-    Part::from(part).of(input).expect("a part that was found lies in its input")
-}
-
-/// The bytes of a part that has `N` of them.
-#[inline]
-pub(crate) fn all_of<const N: usize>(found: &[u8]) -> &[u8; N] {
-    found.try_into().expect("a part that was found has its type's length")
+    present(Part::from(part).of(input))
 }
 
 /// The units of a text that are kept.

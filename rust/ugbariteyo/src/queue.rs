@@ -1,6 +1,6 @@
 //! Queue formats: the type with its numbers, and images read and written.
 
-use crate::part::{all_of, found};
+use crate::part::{present, Part};
 use crate::refusal::Refusal;
 use crate::text::Text;
 use crate::{ffi, ffi::accepted};
@@ -105,6 +105,22 @@ pub enum Value<'a> {
 }
 
 impl<'a> Value<'a> {
+    /// The value of this type from its parts of `input`, or `None` where one does not lie in it.
+    #[inline]
+    fn of(kind: u8, fixed: Part, text: Part, input: &'a [u8]) -> Option<Self> {
+        let text = || text.of(input).map(Text::new);
+        Some(match kind {
+            QueueFormat::TYPE_PUBLIC | QueueFormat::TYPE_MACHINE | QueueFormat::TYPE_CONNECTOR => {
+                Self::Guid(fixed.array_of(input)?)
+            }
+            QueueFormat::TYPE_PRIVATE => Self::ObjectId(fixed.array_of(input)?),
+            QueueFormat::TYPE_MULTICAST => Self::MulticastId(fixed.array_of(input)?),
+            QueueFormat::TYPE_DIRECT | QueueFormat::TYPE_SUBQUEUE => Self::Text(text()?),
+            QueueFormat::TYPE_DL => Self::GuidAndText(fixed.array_of(input)?, text()?),
+            _ => Self::Nothing,
+        })
+    }
+
     /// The bytes of the GUID, OBJECTID or MULTICAST_ID; empty where the type has none.
     #[inline]
     pub fn fixed(self) -> &'a [u8] {
@@ -154,19 +170,8 @@ pub fn read_image(input: &[u8]) -> Result<Image<'_>, Refusal> {
     let answer = ffi::read_image(input);
     accepted(answer.refusal)?;
     let format = QueueFormat { kind: answer.format.kind, suffix_and_flags: answer.format.suffix_and_flags };
-    let fixed = found(answer.fixed, input);
-    let text = Text::new(found(answer.text, input));
-    let value = match format.kind {
-        QueueFormat::TYPE_PUBLIC | QueueFormat::TYPE_MACHINE | QueueFormat::TYPE_CONNECTOR => {
-            Value::Guid(all_of(fixed))
-        }
-        QueueFormat::TYPE_PRIVATE => Value::ObjectId(all_of(fixed)),
-        QueueFormat::TYPE_MULTICAST => Value::MulticastId(all_of(fixed)),
-        QueueFormat::TYPE_DIRECT | QueueFormat::TYPE_SUBQUEUE => Value::Text(text),
-        QueueFormat::TYPE_DL => Value::GuidAndText(all_of(fixed), text),
-        _ => Value::Nothing,
-    };
-    Ok(Image { format, value })
+    let value = Value::of(format.kind, answer.fixed.into(), answer.text.into(), input);
+    Ok(Image { format, value: present(value) })
 }
 
 /// Writes an image to the front of `out`, and gives its length. A string has its null. Bytes of `out` behind the

@@ -5,7 +5,7 @@ use std::hash::{Hash, Hasher};
 
 use crate::ffi;
 use crate::flags::{PropertiesFlags, SecurityFlags};
-use crate::part::{all_of, found};
+use crate::part::{found, present, Part};
 use crate::refusal::Refusal;
 use crate::section::First;
 use crate::summary::Summary;
@@ -156,7 +156,7 @@ impl<'a> Reading<'a> {
     /// CorrelationID.
     #[inline]
     pub fn correlation_id(&self) -> &'a [u8; 20] {
-        all_of(self.part(self.answer.section.correlation_id))
+        present(Part::from(self.answer.section.correlation_id).array_of(self.input))
     }
 
     /// BodyType.

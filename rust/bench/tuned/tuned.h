@@ -1,5 +1,5 @@
-/* The limit that the benchmark holds the library against: reading, support copy and writing of sections, and images, in C
- * tuned by hand for x86-64, with the answers of ugbariteyo.h for every input. */
+/* The limit that the benchmark holds the library against: reading, support copy and writing of sections, reading and
+ * writing of images, in C tuned by hand for x86-64, with the answers of ugbariteyo.h for every input. */
 #ifndef TUNED_H
 #define TUNED_H
 

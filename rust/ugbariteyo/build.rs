@@ -1,5 +1,6 @@
 //! Links the proved library, `libugbariteyo.a`: from the directory in `UGBARITEYO_LIB_DIR`, else from the
-//! repository's `target/lib`, where the script `archive` writes it. That is run where the archive is not there yet; proving takes minutes, so the terminal says what is being done.
+//! repository's `target/lib`, where the script `archive` writes it. That is run where the archive is not there yet;
+//! proving takes minutes, so the terminal says what is being done.
 
 use std::env;
 use std::fs::File;
@@ -55,8 +56,7 @@ fn build_library(root: &Path) -> Result<(), String> {
             "this crate does not lie in its repository: set {LIB_DIR} to where {ARCHIVE} lies"
         ));
     }
-    let advice =
-        format!("run `./archive` in the repository, or set {LIB_DIR} to where {ARCHIVE} lies");
+    let advice = format!("run `./archive` in the repository, or set {LIB_DIR} to where {ARCHIVE} lies");
     say("proving and compiling the library, which is done once and takes minutes");
     match run_archive(root) {
         Ok(status) if status.success() => Ok(()),
@@ -68,10 +68,8 @@ fn build_library(root: &Path) -> Result<(), String> {
 /// Runs `archive` and says each line that it prints.
 fn run_archive(root: &Path) -> io::Result<ExitStatus> {
     let (output, its_end) = io::pipe()?;
-    let mut archive = Command::new(root.join("archive"))
-        .stdout(its_end.try_clone()?)
-        .stderr(its_end)
-        .spawn()?;
+    let mut archive =
+        Command::new(root.join("archive")).stdout(its_end.try_clone()?).stderr(its_end).spawn()?;
     for line in BufReader::new(output).lines() {
         say(&line?);
     }

@@ -1,3 +1,4 @@
+pub mod Lent
 pub mod Number
 pub mod Octets
 pub mod Over

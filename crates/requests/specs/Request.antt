@@ -2,8 +2,7 @@
 use Prim.Native.Nat.{ℕ}
 use mathlib.Core.Bool.{Bool, true, false}
 use mathlib.Core.List.{List}
-use denote.Ref.{RefT}
-use denote.Triple.Both.{Both}
+use Rattle.octets.specs.Lent.{Lent}
 use Rattle.requests.specs.declared.request.Number.{Number}
 use Rattle.requests.specs.declared.request.Number.the-variants.{Absent, Given}
 use Rattle.requests.specs.declared.request.Request.{Request}
@@ -19,10 +18,6 @@ pub record SendRequest : Type 0 where
   pub providerName : List ℕ
   pub extension : List ℕ
   pub body : List ℕ
-
--- a part as an `ensures` has it: the slice that was lent
-abbrev pub Lent : Type 0
-Lent = Both (RefT (List ℕ)) (RefT (List ℕ))
 
 -- the request of a call, out of the call's parameters
 abbrev pub sendRequest : Request → Lent → Lent → Lent → Lent → Lent → Lent → Lent → Lent → SendRequest

@@ -4,11 +4,12 @@ use mathlib.Core.Bool.{Bool, false, cond}
 use mathlib.Core.List.{List}
 use lib.ListN.{length}
 use lib.Dec.{ltb}
+use Rattle.octets.specs.Lent.{Lent}
 use Rattle.rules.specs.Output.{writerOutput}
 use Rattle.rules.specs.Refusal.{bytes, refusal}
 use Rattle.rules.specs.declared.section.Output.{Output}
 use Rattle.rules.specs.declared.section.Output.the-variants.{Written, Refused as Output·Refused}
-use Rattle.writing.specs.Given.{Given, Lent, given}
+use Rattle.writing.specs.Given.{Given, given}
 use Rattle.writing.specs.Writing.{sectionBytes}
 use Rattle.writing.specs.declared.values.SectionValues.{SectionValues}
 use Rattle.requests.specs.Defaults.{bodyOf, correlationOf, properties, signatureOf}

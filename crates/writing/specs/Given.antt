@@ -1,9 +1,8 @@
 -- 01, "Writing": "the full reading's values and parts, with the sizes given by the parts"
 use Prim.Native.Nat.{ℕ, _/_, _%_}
 use mathlib.Core.List.{List}
-use denote.Ref.{RefT}
-use denote.Triple.Both.{Both}
 use lib.ListN.{length}
+use Rattle.octets.specs.Lent.{Held, Lent}
 use Rattle.octets.specs.Number.{toLe}
 use Rattle.rules.specs.Properties.{FixedProperties}
 use Rattle.rules.specs.Refusal.{bytes}
@@ -36,13 +35,8 @@ given values senderId encryptionKey signature senderCert providerInfo label exte
       body = body;
     }
 
--- a part as an `ensures` has it: the slice that was lent
-abbrev pub Lent : Type 0
-Lent = Both (RefT (List ℕ)) (RefT (List ℕ))
-
 -- what a call is given, out of its parameters: as a `requires` has them, and as an `ensures` has them
-abbrev pub held : SectionValues → RefT (List ℕ) → RefT (List ℕ) → RefT (List ℕ) → RefT (List ℕ) → RefT (List ℕ)
-    → RefT (List ℕ) → RefT (List ℕ) → RefT (List ℕ) → Given
+abbrev pub held : SectionValues → Held → Held → Held → Held → Held → Held → Held → Held → Given
 held values senderId encryptionKey signature senderCert providerInfo label extension body =
     given values (senderId .now) (encryptionKey .now) (signature .now) (senderCert .now) (providerInfo .now) (label .now)
     (extension .now) (body .now)

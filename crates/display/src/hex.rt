@@ -1,6 +1,6 @@
 // Bytes in hexadecimal.
-use crate::count::smaller;
 use octets::count::Bytes;
+use octets::count::smaller;
 ghost use mathlib.Core.Path.{_≡_};
 ghost use Prim.Native.Nat.{_/_, _<_, min};
 ghost use lib.ListN.{length, take};
@@ -22,7 +22,7 @@ pub fn put_hex(s: &[u8], out: &mut [u8]) -> Bytes
     ensures { λ r. ⌜ r .0 ≡ min (length (now (s .entry))) (length (now (out .entry)) / 2) ⌝ }
     ensures { λ r. ⌜ now (out .exit) ≡ over (hexOf (take (r .0) (now (s .entry)))) (now (out .entry)) ⌝ }
 {
-    let n = smaller(s.len(), out.len() / 2);
+    let n = smaller(Bytes(s.len()), Bytes(out.len() / 2)).0;
     let mut i = 0;
     while i < n {
         out[2 * i] = hex_digit(s[i] / 16);

@@ -1,7 +1,7 @@
 // Text of 16-bit units as a person reads it: printable ASCII as it is, any other unit as an escape.
-use crate::count::smaller;
 use crate::hex::put_hex;
 use octets::count::Bytes;
+use octets::count::smaller;
 use octets::number::u16_at;
 ghost use mathlib.Core.Path.{_≡_};
 ghost use Prim.Native.Nat.{_+_, _*_, _≤_, _/_, min};
@@ -59,7 +59,8 @@ pub fn put_shown(s: &[u8], out: &mut [u8]) -> Shown
     ensures { λ r. ⌜ r .length .0 ≡ length (shown (units (take (r .taken .0) (now (s .entry))))) ⌝ }
     ensures { λ r. ⌜ now (out .exit) ≡ over (shown (units (take (r .taken .0) (now (s .entry))))) (now (out .entry)) ⌝ }
 {
-    let n = smaller(s.len() / 2, out.len() / 6);
+    // A unit is two bytes of the text and at most six of the output: three for a byte.
+    let n = smaller(Bytes(s.len()), Bytes(out.len() / 3)).0 / 2;
     let mut at = Bytes(0);
     let mut i = 0;
     while i < n {

@@ -32,3 +32,12 @@ impl Bytes {
         Units(units as u32)
     }
 }
+
+pub fn smaller(a: Bytes, b: Bytes) -> Bytes
+    ensures { λ r. ⌜ r .0 ≡ min (a .0) (b .0) ⌝ }
+{
+    if a.0 < b.0 {
+        return a;
+    }
+    b
+}

@@ -1,18 +1,9 @@
 // Bytes written over a lent output.
 use crate::count::Bytes;
+use crate::count::smaller;
 ghost use mathlib.Core.Path.{_≡_};
-ghost use Prim.Native.Nat.{min};
 ghost use lib.ListN.{length, replicate};
 ghost use Rattle.octets.specs.Over.{copied, movedToFront};
-
-fn smaller(a: Bytes, b: Bytes) -> Bytes
-    ensures { λ r. ⌜ r .0 ≡ min (a .0) (b .0) ⌝ }
-{
-    if a.0 < b.0 {
-        return a;
-    }
-    b
-}
 
 // Over the output's first bytes, as many as both hold, one by one.
 fn copy_bytes(s: &[u8], out: &mut [u8])

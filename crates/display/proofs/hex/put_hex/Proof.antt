@@ -41,7 +41,7 @@ returns c =
     let a = the (tie.Start Inv-loop μ-loop) (search) .args in
     let l = the (tie.At-loop Inv-loop μ-loop) (search) .loop in
     let n = the (tie.After-smaller Inv-loop μ-loop) (search) .smaller in
-    let e : l .i ≡ n .result = omega arith in
+    let e : l .i ≡ n .result .0 = omega arith in
     (n .ensures, l .inv .2 ∙ ap (λ (k : ℕ). over (hexOf (take k (now (a .s)))) (now (a .out))) e)
 
 pub put-hex-spec : {M : Type 1} → statement M

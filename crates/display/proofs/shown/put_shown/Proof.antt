@@ -1,5 +1,5 @@
 -- The loop's invariant: the first `i` units are shown, in `at` bytes, and the output is as long as it was.
-use Prim.Native.Nat.{ℕ, _*_, _-_, _≤_}
+use Prim.Native.Nat.{ℕ, _*_, _-_, _/_, _≤_}
 use denote.Ref.{now}
 use mathlib.Core.Path.{_≡_, refl, sym, ap, _∙_}
 use mathlib.Core.List.{List, []}
@@ -50,11 +50,12 @@ returns : tie.Need-returns Inv-loop μ-loop
 returns c =
     let a = the (tie.Start Inv-loop μ-loop) (search) .args in
     let l = the (tie.At-loop Inv-loop μ-loop) (search) .loop in
-    let n = the (tie.After-smaller Inv-loop μ-loop) (search) .smaller in
-    let i : n .result ≡ l .i = omega arith in
-    let e : take (l .i) (units (now (a .s))) ≡ units (take (2 * n .result) (now (a .s))) =
-    ap (λ (k : ℕ). take k (units (now (a .s)))) (sym i) ∙ sym (units-take (now (a .s)) (n .result)) in (
-      ap (λ (k : ℕ). 2 * k) (n .ensures),
+    let m = the (tie.After-smaller Inv-loop μ-loop) (search) .smaller in
+    let n = m .result .0 / 2 in
+    let i : n ≡ l .i = omega arith in
+    let e : take (l .i) (units (now (a .s))) ≡ units (take (2 * n) (now (a .s))) =
+    ap (λ (k : ℕ). take k (units (now (a .s)))) (sym i) ∙ sym (units-take (now (a .s)) n) in (
+      omega (arith, m .ensures),
       (
         l .inv .3 ∙ ap (λ (us : List ℕ). length (shown us)) e,
         l .inv .4 ∙ ap (λ (us : List ℕ). over (shown us) (now (a .out))) e,

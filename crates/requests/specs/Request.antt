@@ -2,7 +2,7 @@
 use Prim.Native.Nat.{ℕ}
 use mathlib.Core.Bool.{Bool, true, false}
 use mathlib.Core.List.{List}
-use Rattle.octets.specs.Lent.{Lent}
+use Rattle.octets.specs.Lent.{Held, Lent}
 use Rattle.requests.specs.declared.request.Number.{Number}
 use Rattle.requests.specs.declared.request.Number.the-variants.{Absent, Given}
 use Rattle.requests.specs.declared.request.Request.{Request}
@@ -19,20 +19,25 @@ pub record SendRequest : Type 0 where
   pub extension : List ℕ
   pub body : List ℕ
 
--- the request of a call, out of the call's parameters
-abbrev pub sendRequest : Request → Lent → Lent → Lent → Lent → Lent → Lent → Lent → Lent → SendRequest
-sendRequest values title senderId encryptionKey signature senderCert providerName extension body =
+-- the request of a call, out of the call's parameters: as the call begins, and as an `ensures` has them
+abbrev pub heldRequest : Request → Held → Held → Held → Held → Held → Held → Held → Held → SendRequest
+heldRequest values title senderId encryptionKey signature senderCert providerName extension body =
     record {
       values = values;
-      title = title .entry .now;
-      senderId = senderId .entry .now;
-      encryptionKey = encryptionKey .entry .now;
-      signature = signature .entry .now;
-      senderCert = senderCert .entry .now;
-      providerName = providerName .entry .now;
-      extension = extension .entry .now;
-      body = body .entry .now;
+      title = title .now;
+      senderId = senderId .now;
+      encryptionKey = encryptionKey .now;
+      signature = signature .now;
+      senderCert = senderCert .now;
+      providerName = providerName .now;
+      extension = extension .now;
+      body = body .now;
     }
+
+abbrev pub sendRequest : Request → Lent → Lent → Lent → Lent → Lent → Lent → Lent → Lent → SendRequest
+sendRequest values title senderId encryptionKey signature senderCert providerName extension body =
+    heldRequest values (title .entry) (senderId .entry) (encryptionKey .entry) (signature .entry) (senderCert .entry)
+    (providerName .entry) (extension .entry) (body .entry)
 
 -- "An absent value gets .."
 unfoldable pub valueOr : ℕ → Number → ℕ

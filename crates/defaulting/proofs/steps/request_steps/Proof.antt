@@ -1,13 +1,12 @@
 -- Each return is that of the first step that fails. From two places on, the steps before them are passed at once.
 use Prim.Native.Nat.{ℕ}
-use denote.Ref.{now}
 use mathlib.Core.Path.{_≡_, _∙_}
 use borrow.Author.Needs.{needs}
 use lib.ListN.{drop}
 use Rattle.octets.proofs.Laws.Steps.{answers, call-false, call-true, passed, the}
 use Rattle.rules.specs.declared.refusal.Checked.{Checked}
 use Rattle.rules.specs.declared.refusal.Checked.the-variants.{Passed}
-use Rattle.requests.specs.Request.{SendRequest}
+use Rattle.requests.specs.Request.{SendRequest, heldRequest}
 use Rattle.requests.specs.Steps.{firstFailure, refused, requestSteps, steps}
 use Rattle.defaulting.proofs.steps.request_steps.Statement.{statement}
 use Rattle.defaulting.proofs.steps.request_steps.Tie as tie
@@ -19,17 +18,8 @@ ruleset calls = (passed, answers, call-true, call-false)
 asked : tie.Start → SendRequest
 asked c =
     let a = c .args in
-    record {
-      values = a .request;
-      title = now (a .title);
-      senderId = now (a .sender-id);
-      encryptionKey = now (a .encryption-key);
-      signature = now (a .signature);
-      senderCert = now (a .sender-cert);
-      providerName = now (a .provider-name);
-      extension = now (a .extension);
-      body = now (a .body);
-    }
+    heldRequest (a .request) (a .title) (a .sender-id) (a .encryption-key) (a .signature) (a .sender-cert) (a .provider-name)
+    (a .extension) (a .body)
 
 -- the first k steps are passed: the answer is that of the others
 abbrev Past : ℕ → Type 0

@@ -9,7 +9,7 @@ use lib.ListN.{getD}
 use lib.Seq.{length-take-le}
 use Rattle.octets.proofs.Laws.Steps.{the}
 use Rattle.rules.specs.Output.{writerOutput}
-use Rattle.requests.specs.Request.{SendRequest}
+use Rattle.requests.specs.Request.{SendRequest, heldRequest}
 use Rattle.requests.specs.Section.{labelWith}
 use Rattle.requests.proofs.Laws.Provider.{info-small}
 use Rattle.writing.specs.Given.{Given}
@@ -23,17 +23,8 @@ use Rattle.sending.proofs.send.send.Tie as tie
 abbrev asked : tie.Start → SendRequest
 asked c =
     let a = c .args in
-    record {
-      values = a .request;
-      title = now (a .title);
-      senderId = now (a .sender-id);
-      encryptionKey = now (a .encryption-key);
-      signature = now (a .signature);
-      senderCert = now (a .sender-cert);
-      providerName = now (a .provider-name);
-      extension = now (a .extension);
-      body = now (a .body);
-    }
+    heldRequest (a .request) (a .title) (a .sender-id) (a .encryption-key) (a .signature) (a .sender-cert) (a .provider-name)
+    (a .extension) (a .body)
 
 abbrev start : tie.After-p → tie.Start
 start c = c .before .before .before .before .before .before .before .before .before .before .before .before

@@ -5,8 +5,24 @@ use Rattle.ugbariteyo.specs.Defaulted.{answerWith, defaultedAnswer}
 use Rattle.ugbariteyo.proofs.defaulted.ugb_defaulted_positional.Statement.{statement}
 use Rattle.ugbariteyo.proofs.defaulted.ugb_defaulted_positional.Tie as tie
 
-pub ugb-defaulted-positional-spec : {M : Type 1} → statement M
+returns : tie.Need-returns
 unfolding defaultedAnswer answerWith
+returns c =
+    let request = the tie.After-request-of (search) .request-of .ensures in
+    let answer = the tie.After-defaulted (search) .defaulted .ensures in
+    simp (← request, ← answer, c .before .before .refusal .given .1, c .no-defaulted .ensures)
+
+returns-2 : tie.Need-returns-2
+unfolding defaultedAnswer answerWith
+returns-2 c =
+    let request = the tie.After-request-of (search) .request-of .ensures in
+    let answer = the tie.After-defaulted (search) .defaulted .ensures in
+    let known = the tie.After-p (search) .p .given .1 in
+    let accepted = the tie.After-no-refusal (search) .no-refusal .ensures in
+    let properties = the tie.After-properties-answer (search) .properties-answer .ensures in
+    simp (← request, ← answer, known, accepted, properties, c .correlation-of .ensures)
+
+pub ugb-defaulted-positional-spec : {M : Type 1} → statement M
 ugb-defaulted-positional-spec =
     tie.close
     (tie.spec
@@ -18,5 +34,5 @@ ugb-defaulted-positional-spec =
     (λ c κs. search needs)
     (λ c κs. search needs)
     (λ c κs. search needs)
-    (λ c. simp (← the tie.After-request-of (search) .request-of .ensures, ← the tie.After-defaulted (search) .defaulted .ensures, c .before .before .refusal .given .1, c .no-defaulted .ensures))
-    (λ c. simp (← the tie.After-request-of (search) .request-of .ensures, ← the tie.After-defaulted (search) .defaulted .ensures, the tie.After-p (search) .p .given .1, the tie.After-no-refusal (search) .no-refusal .ensures, the tie.After-properties-answer (search) .properties-answer .ensures, c .correlation-of .ensures)))
+    returns
+    returns-2)

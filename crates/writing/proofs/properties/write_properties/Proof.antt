@@ -48,11 +48,11 @@ before-56 n l h = omega arith
 
 returns : tie.Need-returns
 returns c =
-    let p4 = the tie.After-zero (search) in
-    let p3 = the tie.After-write-properties-parts (search) in
-    let p2 = the tie.After-write-properties-tail (search) in
-    let p1 = the tie.After-write-properties-head (search) in
-    let p0 = the tie.After-padding (search) in
+    let zeros = the tie.After-zero (search) .zero in
+    let parts = the tie.After-write-properties-parts (search) .write-properties-parts in
+    let tail = the tie.After-write-properties-tail (search) .write-properties-tail in
+    let head = the tie.After-write-properties-head (search) .write-properties-head in
+    let counted = the tie.After-padding (search) in
     let start = the tie.Start (search) in
     let a = start .args in
     let label = now (a .label) in
@@ -60,16 +60,23 @@ returns c =
     let body = now (a .body) in
     let f = a .f in
     let id = a .correlation-id in
-    let pad = p0 .padding in
+    let tag = a .application-tag in
+    let pad = counted .padding in
     let n = length label + length extension + length body in
+    let all = label ++ (extension ++ body) in
     let fits : 56 + n ≤ length (now (a .out)) = reach label extension body (now (a .out)) (parts-room start) in
     let twenty : length id ≡ 20 = start .good .1 .0 .1 .0 .1 in
-    let parts : length (label ++ (extension ++ body)) ≡ length label + length extension + length body = parts-length label extension body in
-    let w1 = written-first (p1 .write-properties-head .ensures) in
-    let w2 = written-rest 32 24 (propertiesTail (fixed f [] 0)) (p2 .write-properties-tail .last .1 .0) w1 (sym (length-propertiesHead f id (a .application-tag) twenty)) (length-propertiesTail f) (before-32 n _ fits) (p2 .write-properties-tail .ensures) in
-    let w3 = written-rest 56 (length label + length extension + length body) (label ++ (extension ++ body)) (p3 .write-properties-parts .last .1 .1 .1 .0) w2 refl parts (before-56 n _ fits) (p3 .write-properties-parts .ensures) in
-    let w4 = written-zeros (56 + length label + length extension + length body) (pad .result .0) (p4 .zero .last .0) w3 (ends label extension body) (padded-room p0) (p4 .zero .ensures) in
-    w4 .bytes ∙ ap (λ (bs : List ℕ). over bs (now (a .out))) (properties-bytes f id (a .application-tag) (pad .result .0) label extension body twenty (pad .ensures))
+    let w1 = written-first (head .ensures) in
+    let w2 =
+    written-rest 32 24 (propertiesTail (fixed f [] 0)) (tail .last .1 .0) w1 (sym (length-propertiesHead f id tag twenty))
+    (length-propertiesTail f) (before-32 n _ fits) (tail .ensures) in
+    let w3 =
+    written-rest 56 n all (parts .last .1 .1 .1 .0) w2 refl (parts-length label extension body) (before-56 n _ fits) (parts .ensures) in
+    let w4 =
+    written-zeros (56 + length label + length extension + length body) (pad .result .0) (zeros .last .0) w3
+    (ends label extension body) (padded-room counted) (zeros .ensures) in
+    w4 .bytes
+    ∙ ap (λ (bs : List ℕ). over bs (now (a .out))) (properties-bytes f id tag (pad .result .0) label extension body twenty (pad .ensures))
 
 pub write-properties-spec : {M : Type 1} → statement M
 write-properties-spec =

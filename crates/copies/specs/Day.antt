@@ -1,12 +1,10 @@
--- How far the copying of a day's file has come, before the record of this number: what is held lies in the buffers.
+-- How far the copying of a day's file has come, before the record of this number: the copies that wait lie in the output.
 use Prim.Native.Nat.{ℕ, _≤_}
 use mathlib.Core.List.{List}
 use lib.ListN.{length}
 use Rattle.copies.specs.declared.day.Day.{Day}
 
-pub record DayHolds (number : ℕ) (input output : List ℕ) (d : Day) : Type 0 where
-  pub ordered : d .window .start .0 ≤ d .window .end .0
-  pub inside : d .window .end .0 ≤ length input
+pub record DayHolds (number : ℕ) (output : List ℕ) (d : Day) : Type 0 where
   pub waiting : d .used .0 ≤ length output
   pub copied : d .copied ≤ number
   pub «left_out» : d .«left_out» ≤ number

@@ -5,12 +5,12 @@ use crate::told::tell_stopped;
 use copying::record::CopiedRecord;
 use copying::record::copy_record;
 use octets::count::Bytes;
-use records::enough::is_enough;
 use records::head::HEAD;
 use records::head::LONGEST;
-use streams::output::put;
+use streams::output::put_first;
 use streams::window::Window;
-use streams::window::read_on;
+use streams::window::bytes_held;
+use streams::window::refill;
 ghost use mathlib.Core.Path.{_≡_};
 ghost use Prim.Native.Nat.{_+_, _<_, _≤_};
 ghost use lib.ListN.{length};
@@ -27,32 +27,9 @@ struct Day {
     has_failed: bool,
 }
 
-// Reads on where the bytes held may not decide the next record.
-fn refill(input: &mut [u8], window: Window) -> Window
-    requires { ⌜ window .start .0 ≤ window .end .0 ⌝ }
-    requires { ⌜ window .end .0 ≤ length (now input) ⌝ }
-    ensures { λ r. ⌜ r .start .0 ≤ r .end .0 ⌝ }
-    ensures { λ r. ⌜ r .end .0 ≤ length (now (input .entry)) ⌝ }
-{
-    if is_enough(window.held(), window.is_over) {
-        return window;
-    }
-    read_on(input, window)
-}
-
-// Hands the copies on, and answers whether it could.
-fn flush(output: &[u8], used: Bytes) -> bool
-    requires { ⌜ used .0 ≤ length (now output) ⌝ }
-{
-    let end = used.0;
-    put(&output[..end])
-}
-
 // Hands the copies on where the next might not fit behind them.
 fn make_room(output: &[u8], before: Day) -> Day
     requires { ⌜ before .used .0 ≤ length (now output) ⌝ }
-    ensures { λ r. ⌜ r .window .start .0 ≡ before .window .start .0 ⌝ }
-    ensures { λ r. ⌜ r .window .end .0 ≡ before .window .end .0 ⌝ }
     ensures { λ r. ⌜ r .used .0 ≤ length (now (output .entry)) ⌝ }
     ensures { λ r. ⌜ r .copied ≡ before .copied ⌝ }
     ensures { λ r. ⌜ r .«left_out» ≡ before .«left_out» ⌝ }
@@ -68,14 +45,14 @@ fn make_room(output: &[u8], before: Day) -> Day
         copied: before.copied,
         left_out: before.left_out,
         is_over: before.is_over,
-        has_failed: !flush(output, used),
+        has_failed: !put_first(output, used),
     }
 }
 
 // What the next record needs: its bytes, and room for its copy.
 fn prepare(number: u64, input: &mut [u8], output: &[u8], before: Day) -> Day
-    requires { ⌜ DayHolds number (now input) (now output) before ⌝ }
-    ensures { λ r. ⌜ DayHolds number (now (input .entry)) (now (output .entry)) r ⌝ }
+    requires { ⌜ DayHolds number (now output) before ⌝ }
+    ensures { λ r. ⌜ DayHolds number (now (output .entry)) r ⌝ }
 {
     let window = refill(input, before.window);
     let used = before.used;
@@ -101,7 +78,6 @@ struct Step {
 }
 
 fn end_step() -> Step
-    ensures { λ r. ⌜ r .size .0 ≡ 0 ⌝ }
     ensures { λ r. ⌜ r .written .0 ≡ 0 ⌝ }
     ensures { λ r. ⌜ r .copied ≡ 0 ⌝ }
     ensures { λ r. ⌜ r .«left_out» ≡ 0 ⌝ }
@@ -117,7 +93,6 @@ fn end_step() -> Step
 
 // Copies the record at the first byte of `s`, and tells why where it has to be left out or the file to end.
 fn copy_next(number: u64, s: &[u8], out: &mut [u8]) -> Step
-    ensures { λ r. ⌜ r .size .0 ≤ length (now (s .entry)) ⌝ }
     ensures { λ r. ⌜ r .written .0 ≤ length (now (out .entry)) ⌝ }
     ensures { λ r. ⌜ r .copied ≤ 1 ⌝ }
     ensures { λ r. ⌜ r .«left_out» ≤ 1 ⌝ }
@@ -156,16 +131,14 @@ fn copy_next(number: u64, s: &[u8], out: &mut [u8]) -> Step
 // The record of this number, its copy behind those that wait.
 fn advance(number: u64, input: &[u8], output: &mut [u8], before: Day) -> Day
     requires { ⌜ number < 18446744073709551615 ⌝ }
-    requires { ⌜ DayHolds number (now input) (now output) before ⌝ }
-    ensures { λ r. ⌜ DayHolds (number + 1) (now (input .entry)) (now (output .entry)) r ⌝ }
+    requires { ⌜ DayHolds number (now output) before ⌝ }
+    ensures { λ r. ⌜ DayHolds (number + 1) (now (output .entry)) r ⌝ }
 {
     let window = before.window;
-    let start = window.start.0;
-    let end = window.end.0;
     let at = before.used.0;
-    let step = copy_next(number, &input[start..end], &mut output[at..]);
+    let step = copy_next(number, bytes_held(input, window), &mut output[at..]);
     Day {
-        window: window.from(Bytes(start + step.size.0)),
+        window: window.behind(step.size),
         used: Bytes(at + step.written.0),
         copied: before.copied + step.copied,
         left_out: before.left_out + step.left_out,
@@ -175,10 +148,8 @@ fn advance(number: u64, input: &[u8], output: &mut [u8], before: Day) -> Day
 }
 
 // Hands the last copies on, and tells how many records there were.
-fn finish(output: &[u8], day: Day)
-    requires { ⌜ day .used .0 ≤ length (now output) ⌝ }
-{
-    if flush(output, day.used) {
+fn finish(output: &[u8], day: Day) {
+    if put_first(output, day.used) {
         tell_counts(day.copied, day.left_out);
     }
 }

@@ -5,7 +5,7 @@ use octets::part::within;
 use rules::section::Output;
 use streams::input::Ended;
 use streams::input::fill;
-use streams::output::put;
+use streams::output::put_first;
 use streams::section::section_buffer;
 use streams::section::tell_too_long;
 use support::copy::support_copy;
@@ -15,7 +15,7 @@ fn put_copy(s: &[u8], security_first: bool) {
     match support_copy(s, security_first, &mut out) {
         Output::Refused(r) => tell_refused(r),
         Output::Written(n) => {
-            put(within(&out, Bytes(0), n));
+            put_first(&out, n);
         }
     }
 }

@@ -3,89 +3,91 @@
 // before a failed read are.
 use octets::count::Bytes;
 use records::append::append_line;
-use records::enough::is_enough;
 use records::line::Row;
 use records::record::Next;
 use records::record::next_record;
 use rules::section::Output;
-use streams::output::put;
+use streams::output::put_first;
 use streams::output::tell;
 use streams::window::Window;
-use streams::window::read_on;
-ghost use Prim.Native.Nat.{_≤_};
-ghost use lib.ListN.{length};
+use streams::window::bytes_held;
+use streams::window::refill;
 
-// What the output buffer holds: lines in the first `used` bytes; and whether handing some on has failed.
+// What the output buffer holds: lines in the first `used` bytes. No line follows where the last one is printed, or where
+// handing some on has failed.
 struct Lines {
     used: Bytes,
-    has_failed: bool,
-}
-
-// Reads on where the bytes held may not decide the next record.
-fn refill(input: &mut [u8], window: Window) -> Window
-    requires { ⌜ window .start .0 ≤ window .end .0 ⌝ }
-    requires { ⌜ window .end .0 ≤ length (now input) ⌝ }
-    ensures { λ r. ⌜ r .start .0 ≤ r .end .0 ⌝ }
-    ensures { λ r. ⌜ r .end .0 ≤ length (now (input .entry)) ⌝ }
-{
-    if is_enough(window.held(), window.is_over) {
-        return window;
-    }
-    read_on(input, window)
-}
-
-// Hands the lines on, and answers whether it could.
-fn flush(output: &[u8], used: Bytes) -> bool
-    requires { ⌜ used .0 ≤ length (now output) ⌝ }
-{
-    let end = used.0;
-    put(&output[..end])
+    is_over: bool,
 }
 
 // Hands the lines on, and adds a line as the first. (No line is longer than the buffer.)
-fn add_first_line(row: Row, output: &mut [u8], used: Bytes) -> Lines
-    requires { ⌜ used .0 ≤ length (now output) ⌝ }
-    ensures { λ r. ⌜ r .used .0 ≤ length (now (output .entry)) ⌝ }
-{
-    if !flush(output, used) {
+fn add_first_line(row: Row, output: &mut [u8], used: Bytes) -> Lines {
+    if !put_first(output, used) {
         return Lines {
             used,
-            has_failed: true,
+            is_over: true,
         };
     }
     match append_line(row, output, Bytes(0)) {
         Output::Written(first) => Lines {
             used: first,
-            has_failed: false,
+            is_over: false,
         },
         Output::Refused(_) => Lines {
             used: Bytes(0),
-            has_failed: true,
+            is_over: true,
         },
     }
 }
 
 // Adds a line; where it does not fit, those before it are handed on first.
-fn add_line(row: Row, output: &mut [u8], used: Bytes) -> Lines
-    requires { ⌜ used .0 ≤ length (now output) ⌝ }
-    ensures { λ r. ⌜ r .used .0 ≤ length (now (output .entry)) ⌝ }
-{
+fn add_line(row: Row, output: &mut [u8], used: Bytes) -> Lines {
     match append_line(row, output, used) {
         Output::Written(more) => Lines {
             used: more,
-            has_failed: false,
+            is_over: false,
         },
         Output::Refused(_) => add_first_line(row, output, used),
     }
 }
 
 // Hands the lines on, and then the last one, which so is printed only where those before it were.
-fn finish(row: Row, output: &mut [u8], used: Bytes)
-    requires { ⌜ used .0 ≤ length (now output) ⌝ }
-{
+fn finish(row: Row, output: &mut [u8], used: Bytes) -> Lines {
     let last = add_first_line(row, output, used);
-    if !last.has_failed {
-        flush(output, last.used);
+    if !last.is_over {
+        put_first(output, last.used);
+    }
+    Lines {
+        used: Bytes(0),
+        is_over: true,
+    }
+}
+
+// What a record takes of the bytes held, and the lines with its own.
+struct Step {
+    size: Bytes,
+    lines: Lines,
+}
+
+// The record at the first byte of `held`, or the last line.
+fn list_next(number: u64, held: &[u8], output: &mut [u8], used: Bytes) -> Step {
+    match next_record(held) {
+        Next::Found(record) => {
+            let size = record.size;
+            let answer = record.answer;
+            Step {
+                size,
+                lines: add_line(Row::Record(number, answer), output, used),
+            }
+        }
+        Next::End => Step {
+            size: Bytes(0),
+            lines: finish(Row::End(number), output, used),
+        },
+        Next::Stop => Step {
+            size: Bytes(0),
+            lines: finish(Row::Stop(number), output, used),
+        },
     }
 }
 
@@ -95,33 +97,15 @@ fn list(input: &mut [u8], output: &mut [u8]) {
     let mut window = Window::empty();
     let mut lines = add_first_line(Row::Header, output, Bytes(0));
     let mut number = 0;
-    while number < u64::MAX {
+    while number < u64::MAX && !lines.is_over {
         window = refill(input, window);
         if window.has_failed {
-            flush(output, lines.used);
+            put_first(output, lines.used);
             return;
         }
-        let start = window.start.0;
-        let end = window.end.0;
-        match next_record(&input[start..end]) {
-            Next::Found(record) => {
-                let next = Bytes(start + record.size.0);
-                let answer = record.answer;
-                window.start = next;
-                lines = add_line(Row::Record(number, answer), output, lines.used);
-            }
-            Next::End => {
-                finish(Row::End(number), output, lines.used);
-                return;
-            }
-            Next::Stop => {
-                finish(Row::Stop(number), output, lines.used);
-                return;
-            }
-        }
-        if lines.has_failed {
-            return;
-        }
+        let step = list_next(number, bytes_held(input, window), output, lines.used);
+        window = window.behind(step.size);
+        lines = step.lines;
         number += 1;
     }
 }

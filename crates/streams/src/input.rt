@@ -1,9 +1,9 @@
 // Reading standard input.
 use libc::STDIN_FILENO;
 use octets::count::Bytes;
-ghost use Prim.Native.Nat.{_≤_};
 ghost use mathlib.Core.Path.{_≡_};
 ghost use lib.ListN.{length};
+ghost use Rattle.streams.specs.Input.{Fills};
 
 // Why a fill ended: the buffer is full, the input is over, or a read failed.
 pub enum Ended {
@@ -31,7 +31,7 @@ fn read_some(buf: &mut [u8]) -> isize
 
 // Reads until the buffer is full or the input is over. Of the bytes that were read nothing can be promised.
 pub fn fill(buf: &mut [u8]) -> Filled
-    ensures { λ r. ⌜ r .count .0 ≤ length (now (buf .entry)) ⌝ }
+    ensures { λ r. ⌜ Fills (length (now (buf .entry))) r ⌝ }
     ensures { λ _. ⌜ length (now (buf .exit)) ≡ length (now (buf .entry)) ⌝ }
 {
     let mut done = 0;

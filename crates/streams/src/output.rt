@@ -1,6 +1,8 @@
 // Writing standard output and standard error.
 use libc::STDERR_FILENO;
 use libc::STDOUT_FILENO;
+use octets::count::Bytes;
+use octets::part::within;
 
 // Writes all of it to standard output, and answers whether it could.
 pub fn put(bytes: &[u8]) -> bool {
@@ -9,6 +11,11 @@ pub fn put(bytes: &[u8]) -> bool {
         os::fail(b"standard output");
     }
     is_written
+}
+
+// Writes a buffer's first bytes to standard output, and answers whether it could.
+pub fn put_first(buffer: &[u8], count: Bytes) -> bool {
+    put(within(buffer, Bytes(0), count))
 }
 
 // Writes to standard error. Where that fails there is nobody to tell.

@@ -2,15 +2,16 @@
 use crate::output::tell;
 use crate::output::tell_number;
 ghost use mathlib.Core.Path.{_≡_};
-ghost use lib.ListN.{length};
+ghost use lib.ListN.{length, replicate};
 
 // The longest input that is read. The section and its copy lie on the stack, each in a buffer that is a byte longer, and
 // the stack has 8 MiB in most systems.
 const LONGEST: usize = 3145728;
 
-// One byte longer, so that a full buffer means that the input is too long. The `ensures` gives only the length, which
-// lending the array as a slice needs.
+// One byte longer, so that a full buffer means that the input is too long. The length is promised by itself, since
+// lending the array as a slice needs it.
 pub fn section_buffer() -> [u8; 3145729]
+    ensures { λ r. ⌜ r ≡ replicate 3145729 0 ⌝ }
     ensures { λ r. ⌜ 3145729 ≡ length r ⌝ }
 {
     [0; 3145729]

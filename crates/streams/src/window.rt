@@ -2,9 +2,13 @@
 use crate::input::Ended;
 use crate::input::fill;
 use octets::count::Bytes;
+use octets::count::smaller;
 use octets::over::move_to_front;
+use octets::part::within;
+use records::enough::is_enough;
 ghost use mathlib.Core.Path.{_≡_};
-ghost use Rattle.streams.specs.Window.{ReadOn, held};
+ghost use mathlib.Core.Bool.{false};
+ghost use Rattle.streams.specs.Window.{ReadOn, Refilled, bytesHeld, front, held, windowBehind, windowTo};
 
 // The buffer's bytes from `start` to `end`; whether the input ends with them, and whether a read has failed.
 pub struct Window {
@@ -17,28 +21,13 @@ pub struct Window {
 impl Window {
     // Before the first read.
     pub fn empty() -> Window
-        ensures { λ r. ⌜ r .start .0 ≡ 0 ⌝ }
-        ensures { λ r. ⌜ r .end .0 ≡ 0 ⌝ }
+        ensures { λ r. ⌜ r ≡ front 0 false false ⌝ }
     {
         Window {
             start: Bytes(0),
             end: Bytes(0),
             is_over: false,
             has_failed: false,
-        }
-    }
-
-    // The same from another byte on.
-    pub fn from(self, start: Bytes) -> Window
-        ensures { λ r. ⌜ r .start .0 ≡ start .0 ⌝ }
-        ensures { λ r. ⌜ r .end .0 ≡ self .end .0 ⌝ }
-    {
-        let end = self.end;
-        Window {
-            start,
-            end,
-            is_over: self.is_over,
-            has_failed: self.has_failed,
         }
     }
 
@@ -51,11 +40,31 @@ impl Window {
         }
         Bytes(self.end.0 - self.start.0)
     }
+
+    // The same behind the first `size` bytes held, or behind all where they are fewer.
+    pub fn behind(self, size: Bytes) -> Window
+        ensures { λ r. ⌜ r ≡ windowBehind (size .0) self ⌝ }
+    {
+        let end = self.end;
+        let taken = smaller(size, self.held());
+        Window {
+            start: Bytes(self.start.0 + taken.0),
+            end,
+            is_over: self.is_over,
+            has_failed: self.has_failed,
+        }
+    }
+}
+
+// The bytes held, or none where the window does not lie in the buffer.
+pub fn bytes_held(buffer: &[u8], window: Window) -> &[u8]
+    ensures { λ r. ⌜ now r ≡ bytesHeld window (now (buffer .entry)) ⌝ }
+{
+    within(buffer, window.start, window.held())
 }
 
 fn window_to(end: Bytes, ended: Ended) -> Window
-    ensures { λ r. ⌜ r .start .0 ≡ 0 ⌝ }
-    ensures { λ r. ⌜ r .end .0 ≡ end .0 ⌝ }
+    ensures { λ r. ⌜ r ≡ windowTo (end .0) ended ⌝ }
 {
     let start = Bytes(0);
     match ended {
@@ -93,4 +102,14 @@ pub fn read_on(buffer: &mut [u8], window: Window) -> Window
     let filled = fill(&mut buffer[held..]);
     let ended = filled.ended;
     window_to(Bytes(held + filled.count.0), ended)
+}
+
+// Reads on where the bytes held may not decide the next record of a day's file.
+pub fn refill(buffer: &mut [u8], window: Window) -> Window
+    ensures { λ r. ⌜ Refilled window r (now (buffer .entry)) (now (buffer .exit)) ⌝ }
+{
+    if is_enough(window.held(), window.is_over) {
+        return window;
+    }
+    read_on(buffer, window)
 }

@@ -1,10 +1,10 @@
--- A record that is copied or left out lies in the input, and its copy in the output.
+-- A copy lies in the output.
 use denote.Ref.{now}
 use mathlib.Core.Path.{sym, _∙_}
 use native.Mathlib.Omega.{arith}
 use borrow.Author.Needs.{needs}
 use Rattle.octets.proofs.Laws.Steps.{the}
-use Rattle.copying.proofs.Laws.Fits.{copied-fits, left-out-fits}
+use Rattle.copying.proofs.Laws.Fits.{copy-fits}
 use Rattle.copies.proofs.day.copy_next.Statement.{statement}
 use Rattle.copies.proofs.day.copy_next.Tie as tie
 
@@ -12,15 +12,8 @@ returns : tie.Need-returns
 returns c =
     let a = the tie.Start (search) .args in
     let told = the tie.After-copy-record (search) .copy-record .ensures .0 in
-    let fits = copied-fits (now (a .s)) (now (a .out)) _ (sym told ∙ the tie.After-copy (search) .copy .given .1) in
-    (fits .0, (fits .1, omega arith))
-
-returns-2 : tie.Need-returns-2
-returns-2 c =
-    let a = the tie.Start (search) .args in
-    let told = the tie.After-copy-record (search) .copy-record .ensures .0 in
-    let fits = left-out-fits (now (a .s)) (now (a .out)) _ (sym told ∙ the tie.After-left (search) .left .given .1) in
-    (fits, (omega arith, omega arith))
+    let fits = copy-fits (now (a .s)) (now (a .out)) _ (sym told ∙ the tie.After-copy (search) .copy .given .1) in
+    (fits, omega arith)
 
 pub copy-next-spec : {M : Type 1} → statement M
 copy-next-spec =
@@ -38,7 +31,7 @@ copy-next-spec =
     (λ c. search needs)
     returns
     (λ c. search needs)
-    returns-2
+    (λ c. search needs)
     (λ c. search needs)
     (λ c. search needs)
     (λ c. search needs)

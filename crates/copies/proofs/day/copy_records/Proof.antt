@@ -9,7 +9,7 @@ use Rattle.copies.proofs.day.copy_records.Tie as tie
 
 abbrev Inv-loop : tie.InvT-loop
 Inv-loop input₀ output₀ day₀ number₀ input output day number =
-    DayHolds number input output day × (length input ≡ length input₀) × (length output ≡ length output₀)
+    DayHolds number output day × (length input ≡ length input₀) × (length output ≡ length output₀)
 
 abbrev μ-loop : tie.MeasureT-loop
 μ-loop input₀ output₀ day₀ number₀ input output day number = 18446744073709551615 - number

@@ -4,6 +4,7 @@ use mathlib.Core.Path.{_≡_, refl}
 use native.Mathlib.Omega.{arith}
 use borrow.Author.Needs.{needs}
 use lib.ListN.{length}
+use Rattle.streams.proofs.Laws.Input.{failed-fills, full-fills, over-fills}
 use Rattle.streams.proofs.input.fill.Statement.{statement}
 use Rattle.streams.proofs.input.fill.Tie as tie
 
@@ -23,13 +24,13 @@ loop-again : tie.Need-loop-again Inv-loop μ-loop
 loop-again c = (omega arith, omega arith)
 
 returns : tie.Need-returns Inv-loop μ-loop
-returns c = (omega arith, omega arith)
+returns c = (failed-fills (omega arith), omega arith)
 
 returns-2 : tie.Need-returns-2 Inv-loop μ-loop
-returns-2 c = (omega arith, omega arith)
+returns-2 c = (over-fills (omega arith), omega arith)
 
 returns-3 : tie.Need-returns-3 Inv-loop μ-loop
-returns-3 c = (omega arith, omega arith)
+returns-3 c = (full-fills (omega arith), omega arith)
 
 pub fill-spec : {M : Type 1} → statement M
 fill-spec =

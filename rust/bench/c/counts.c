@@ -1,6 +1,7 @@
 /* The calls that the script `counts` counts. Each is made once, inside `counted`, and then named on standard output
  * behind the bytes that memcpy, memmove and memset moved for it. */
 #include <stdio.h>
+#include <string.h>
 
 #include "samples.h"
 
@@ -23,13 +24,14 @@ WRAPPED(memset, int)
 
 /* ---- The inputs */
 
-enum { ROOM = 8192 };
+enum { ROOM = 8192, HEAD = 8 };
 
 typedef struct input {
     const char *name;
     const given *given; /* what the section is written from */
     uint8_t s[ROOM];    /* the section */
     size_t s_length;
+    uint8_t record[HEAD + ROOM]; /* the section as a record of a day's file */
     uint8_t out[ROOM];
     size_t out_length;
 } input;
@@ -61,6 +63,7 @@ CALL(call_same_summary, ugb_same_summary(SECTION, SECTION, FIRST))
 CALL(call_label_shown, ugb_label_shown(SECTION, FIRST))
 CALL(call_support_copy, ugb_support_copy(SECTION, FIRST, OUT))
 CALL(call_write, ugb_write_section(i->given->values, &i->given->parts, OUT))
+CALL(call_next_record, ugb_next_record(i->record, HEAD + i->s_length))
 CALL(call_send, send_sample(OUT))
 CALL(call_defaulted, defaulted_sample())
 CALL(call_read_image, ugb_read_image(image_sample.bytes, image_sample.length))
@@ -97,11 +100,19 @@ static void count_refused(const char *what, size_t at, uint8_t wrong)
     *byte = right;
 }
 
+static void make_section(input *i)
+{
+    i->s_length = ugb_write_section(i->given->values, &i->given->parts, i->s, ROOM).length;
+    uint8_t head[HEAD] = {0x57, 0x52, FIRST, 0, i->s_length % 256, i->s_length / 256};
+    memcpy(i->record, head, HEAD);
+    memcpy(i->record + HEAD, i->s, i->s_length);
+}
+
 int main(void)
 {
     input *secured = &inputs[SECURED];
     for (input *i = inputs; i < inputs + INPUTS; i++)
-        i->s_length = ugb_write_section(i->given->values, &i->given->parts, i->s, ROOM).length;
+        make_section(i);
 
     count_sections("read", call_read);
     count_sections("summarize", call_summarize);
@@ -109,6 +120,7 @@ int main(void)
     count_sections("label shown", call_label_shown);
     count_sections("support copy", call_support_copy);
     count_sections("write", call_write);
+    count_sections("next record", call_next_record);
     count("send", "signed, 40-unit title", call_send, secured);
     count("defaulted", "signed, 40-unit title", call_defaulted, secured);
     count("queue image read", "direct name", call_read_image, secured);

@@ -1,4 +1,5 @@
--- 01, "the label shown is the section's own part, or the lent stand-in text where LabelLength is 0 or reading is refused": the part, of no bytes where it is the stand-in.
+-- 01, "the label shown is the section's own part, or the lent stand-in text where LabelLength is 0 or reading is refused": the part,
+-- of no bytes where it is the stand-in.
 use mathlib.Core.Bool.{cond}
 use lib.Dec.{eqb}
 use Rattle.rules.specs.Security.{part}

@@ -116,7 +116,8 @@ fn same_contents(
 ) -> bool
     requires { ⌜ g .parts .length .0 ≤ limit ⌝ }
     requires { ⌜ h .parts .length .0 ≤ limit ⌝ }
-    ensures { λ r. ⌜ (r ≡ true → SameContents g p (now (a .entry)) h q (now (b .entry))) × (SameContents g p (now (a .entry)) h q (now (b .entry)) → r ≡ true) ⌝ }
+    ensures { λ r. ⌜ (r ≡ true → SameContents g p (now (a .entry)) h q (now (b .entry)))
+        × (SameContents g p (now (a .entry)) h q (now (b .entry)) → r ≡ true) ⌝ }
 {
     if !same(
         label_at(a, p, g.parts.length),
@@ -135,7 +136,8 @@ fn same_contents(
 fn same_accepted(a: &[u8], b: &[u8], security_first: bool) -> bool
     requires { ⌜ judge «security_first» (now a) .number ≡ 0 ⌝ }
     requires { ⌜ judge «security_first» (now b) .number ≡ 0 ⌝ }
-    ensures { λ r. ⌜ (r ≡ true → SameSummary «security_first» (now (a .entry)) (now (b .entry))) × (SameSummary «security_first» (now (a .entry)) (now (b .entry)) → r ≡ true) ⌝ }
+    ensures { λ r. ⌜ (r ≡ true → SameSummary «security_first» (now (a .entry)) (now (b .entry)))
+        × (SameSummary «security_first» (now (a .entry)) (now (b .entry)) → r ≡ true) ⌝ }
 {
     let g = header_at(a, security_first);
     let h = header_at(b, security_first);
@@ -156,7 +158,8 @@ fn same_accepted(a: &[u8], b: &[u8], security_first: bool) -> bool
 // Whether both inputs are accepted, with the same summary, label and provider name by content. By demand 3 that is
 // so exactly when they agree in every judged bit, and exactly when their support copies are the same bytes.
 pub fn same_summary(a: &[u8], b: &[u8], security_first: bool) -> bool
-    ensures { λ r. ⌜ (r ≡ true → SameSummary «security_first» (now (a .entry)) (now (b .entry))) × (SameSummary «security_first» (now (a .entry)) (now (b .entry)) → r ≡ true) ⌝ }
+    ensures { λ r. ⌜ (r ≡ true → SameSummary «security_first» (now (a .entry)) (now (b .entry)))
+        × (SameSummary «security_first» (now (a .entry)) (now (b .entry)) → r ≡ true) ⌝ }
 {
     if judge(a, security_first).number != refusal::PASSED {
         return false;

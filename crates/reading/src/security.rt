@@ -126,7 +126,8 @@ fn length_of(f: SecurityFields) -> Bytes
 // S10 and S11
 fn contents_number(s: &[u8], f: SecurityFields) -> u32
     requires { ⌜ SecuritySizes f ⌝ }
-    ensures { λ r. ⌜ r ≡ securityContents f (partOf (now (s .entry)) (securityParts f .«sender_id»)) (partOf (now (s .entry)) (securityParts f .«provider_info»)) ⌝ }
+    ensures { λ r. ⌜ r ≡ securityContents f (partOf (now (s .entry)) (securityParts f .«sender_id»))
+        (partOf (now (s .entry)) (securityParts f .«provider_info»)) ⌝ }
 {
     let parts = security_parts(f);
     let identity = within(s, parts.sender_id.start, parts.sender_id.length);

@@ -24,7 +24,9 @@ ghost use Rattle.support.specs.Laid.{HeaderLaid, SectionLaid};
 // The copy of a SecurityHeader, where one stands first.
 fn copy_header(s: &[u8], security_first: bool, at: Bytes, out: &mut [u8])
     requires { ⌜ HeaderLaid «security_first» (at .0) (now s) (now out) ⌝ }
-    ensures { λ _. ⌜ now (out .exit) ≡ over (masked (cond «security_first» (securityMask (headerAt «security_first» (now (s .entry)) .fields)) []) (now (s .entry))) (now (out .entry)) ⌝ }
+    ensures { λ _. ⌜ now (out .exit)
+        ≡ over (masked (cond «security_first» (securityMask (headerAt «security_first» (now (s .entry)) .fields)) []) (now (s .entry)))
+        (now (out .entry)) ⌝ }
 {
     if !security_first {
         return;

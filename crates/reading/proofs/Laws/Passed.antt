@@ -1,18 +1,32 @@
--- Where the MessagePropertiesHeader begins, its fields and where the section ends, as the code reads them of an accepted section.
+-- What judging's answer tells; and of an accepted section where the MessagePropertiesHeader begins, its fields and where the section
+-- ends, as the code reads them.
 use Prim.Native.Nat.{ℕ, _+_, _≤_, min}
-use mathlib.Core.Path.{_≡_, ap, _∙_}
+use mathlib.Core.Path.{_≡_, sym, ap, subst, _∙_}
 use mathlib.Core.Bool.{Bool}
 use mathlib.Core.List.{List}
 use native.Mathlib.Omega.{arith}
 use lib.ListN.{length}
 use Rattle.rules.specs.Properties.{propertiesLength}
-use Rattle.rules.specs.Reading.{fieldsAt, judge, startAt, summaryAt}
+use Rattle.rules.specs.Reading.{fieldsAt, judge, startAt, summarize, summaryAt}
 use Rattle.rules.specs.Refusal.{limit}
 use Rattle.rules.specs.Summary.{summaryOf}
 use Rattle.rules.specs.declared.properties.PropertiesFields.{PropertiesFields}
-use Rattle.rules.proofs.Laws.Accepted.{judge-passed, section-fits}
+use Rattle.rules.specs.declared.refusal.Refusal.{Refusal}
+use Rattle.rules.specs.declared.section.Summarized.the-variants.{Refused}
+use Rattle.rules.proofs.Laws.Accepted.{judge-passed, section-fits, summarize-refused}
 use Rattle.reading.specs.Fields.{propertiesRead, startRead}
 use Rattle.reading.proofs.Laws.Fields.{accepted}
+
+-- a test of the number that judging answered
+module _ (first : Bool) (s : List ℕ) {r : Refusal} (judged : r ≡ judge first s) where
+  pub none-told : r .number ≡ 0 → judge first s .number ≡ 0
+  none-told e = sym (ap (λ (x : Refusal). x .number) judged) ∙ e
+
+  pub some-told : ¬ (r .number ≡ 0) → ¬ (judge first s .number ≡ 0)
+  some-told some = subst (λ (x : Refusal). ¬ (x .number ≡ 0)) judged some
+
+  pub refused-told : ¬ (r .number ≡ 0) → summarize first s ≡ Refused r
+  refused-told some = summarize-refused first s (some-told some) ∙ ap Refused (sym judged)
 
 -- the section ends behind its MessagePropertiesHeader, within the limit and the input
 pub record Ends (first : Bool) (s : List ℕ) (size : ℕ) : Type 0 where

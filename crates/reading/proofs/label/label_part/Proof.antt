@@ -15,18 +15,18 @@ use Rattle.rules.specs.Security.{part}
 use Rattle.rules.specs.Summary.{summaryOf}
 use Rattle.rules.specs.declared.properties.PropertiesFields.{PropertiesFields}
 use Rattle.rules.specs.declared.refusal.Refusal.{Refusal}
-use Rattle.rules.proofs.Laws.Accepted.{summarize-passed, summarize-refused}
+use Rattle.rules.proofs.Laws.Accepted.{summarize-passed}
 use Rattle.reading.specs.Label.{labelPart}
 use Rattle.reading.proofs.Laws.Fields.{Passed, accepted}
+use Rattle.reading.proofs.Laws.Passed.{none-told, refused-told}
 use Rattle.reading.proofs.label.label_part.Statement.{statement}
 use Rattle.reading.proofs.label.label_part.Tie as tie
 
 returns : tie.Need-returns
 unfolding labelPart
 returns c =
-    let a = the tie.Start (search) .args in
-    let some = subst (λ (x : Refusal). ¬ (x .number ≡ 0)) (the tie.After-judge (search) .judge .ensures) (the tie.Then1 (search) .if1 .taken) in
-    rw (summarize-refused (a .security-first) (now (a .s)) some) (c .part .ensures)
+    let refused = refused-told _ _ (the tie.After-judge (search) .judge .ensures) (the tie.Then1 (search) .if1 .taken) in
+    rw refused (c .part .ensures)
 
 first : tie.Else1 → Bool
 first c = the tie.Start (search) .args .security-first
@@ -36,7 +36,7 @@ input c = now (the tie.Start (search) .args .s)
 
 none : (c : tie.Else1) → judge (first c) (input c) .number ≡ 0
 unfolding first input
-none c = sym (ap (λ (x : Refusal). x .number) (the tie.After-judge (search) .judge .ensures)) ∙ c .if1 .left
+none c = none-told _ _ (the tie.After-judge (search) .judge .ensures) (c .if1 .left)
 
 read : (c : tie.Else1) → Passed (first c) (input c)
 read c = accepted (first c) (input c) (none c)

@@ -1,24 +1,22 @@
 -- A refused input has no summary; two accepted ones are compared.
-use mathlib.Core.Path.{_≡_, ap, sym, subst, _∙_}
-use denote.Ref.{now}
 use Rattle.octets.proofs.Laws.Steps.{the}
-use Rattle.rules.specs.declared.refusal.Refusal.{Refusal}
 use Rattle.reading.proofs.Laws.Decided.{fails}
+use Rattle.reading.proofs.Laws.Passed.{none-told, some-told}
 use Rattle.reading.proofs.Laws.Same.{refused-left, refused-right}
 use borrow.Author.Needs.{needs}
 use Rattle.reading.proofs.same.same_summary.Statement.{statement}
 use Rattle.reading.proofs.same.same_summary.Tie as tie
 
 returns : tie.Need-returns
-returns c = fails (refused-left _ _ _ (subst (λ (x : Refusal). ¬ (x .number ≡ 0)) (the tie.After-judge (search) .judge .ensures) (c .if1 .taken)))
+returns c = fails (refused-left _ _ _ (some-told _ _ (the tie.After-judge (search) .judge .ensures) (c .if1 .taken)))
 
 returns-2 : tie.Need-returns-2
-returns-2 c = fails (refused-right _ _ _ (subst (λ (x : Refusal). ¬ (x .number ≡ 0)) (the tie.After-judge2 (search) .judge2 .ensures) (c .if2 .taken)))
+returns-2 c = fails (refused-right _ _ _ (some-told _ _ (the tie.After-judge2 (search) .judge2 .ensures) (c .if2 .taken)))
 
 same-accepted-requires : tie.Need-same-accepted-requires
 same-accepted-requires c κs = (
-  sym (ap (λ (x : Refusal). x .number) (the tie.After-judge (search) .judge .ensures)) ∙ the tie.Else1 (search) .if1 .left,
-  sym (ap (λ (x : Refusal). x .number) (the tie.After-judge2 (search) .judge2 .ensures)) ∙ c .if2 .left,
+  none-told _ _ (the tie.After-judge (search) .judge .ensures) (the tie.Else1 (search) .if1 .left),
+  none-told _ _ (the tie.After-judge2 (search) .judge2 .ensures) (c .if2 .left),
 )
 
 returns-3 : tie.Need-returns-3

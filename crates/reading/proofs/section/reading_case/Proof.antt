@@ -1,26 +1,22 @@
 -- The refusal and the caller pick the case.
 use Prim.Native.Nat.{ℕ}
-use mathlib.Core.Path.{_≡_, ap, sym, subst, _∙_}
+use mathlib.Core.Path.{_≡_, ap, subst}
 use mathlib.Core.Bool.{Bool, true, false}
 use mathlib.Core.List.{List}
 use denote.Ref.{now}
 use Rattle.octets.proofs.Laws.Steps.{the}
 use Rattle.rules.specs.Reading.{fullReading, headerAt, judge, read}
-use Rattle.rules.specs.declared.refusal.Refusal.{Refusal}
-use Rattle.rules.proofs.Laws.Accepted.{summarize-passed, summarize-refused}
+use Rattle.rules.proofs.Laws.Accepted.{summarize-passed}
 use Rattle.reading.specs.Case.{readingCase}
 use Rattle.reading.specs.declared.section.ReadingCase.the-variants.{WithSecurity, WithoutSecurity}
+use Rattle.reading.proofs.Laws.Passed.{none-told, refused-told}
 use borrow.Author.Needs.{needs}
 use Rattle.reading.proofs.section.reading_case.Statement.{statement}
 use Rattle.reading.proofs.section.reading_case.Tie as tie
 
 returns : tie.Need-returns
 unfolding readingCase read fullReading
-returns c =
-    let a = the tie.Start (search) .args in
-    let r = the tie.After-judge (search) .judge .ensures in
-    let some = subst (λ (x : Refusal). ¬ (x .number ≡ 0)) r (c .if1 .taken) in
-    rw (summarize-refused (a .security-first) (now (a .s)) some, ← r)
+returns c = rw (refused-told _ _ (the tie.After-judge (search) .judge .ensures) (c .if1 .taken))
 
 input : tie.Else1 → List ℕ
 input c = now (the tie.Start (search) .args .s)
@@ -30,7 +26,7 @@ first c = the tie.Start (search) .args .security-first
 
 none : (c : tie.Else1) → judge (first c) (input c) .number ≡ 0
 unfolding input first
-none c = sym (ap (λ (x : Refusal). x .number) (the tie.After-judge (search) .judge .ensures)) ∙ c .if1 .left
+none c = none-told _ _ (the tie.After-judge (search) .judge .ensures) (c .if1 .left)
 
 secured : (c : tie.Then2) → judge true (input (c .before)) .number ≡ 0
 unfolding first

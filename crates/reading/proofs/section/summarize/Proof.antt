@@ -1,26 +1,22 @@
 -- The refusal picks the case.
-use mathlib.Core.Path.{_≡_, ap, sym, subst, _∙_}
+use mathlib.Core.Path.{_≡_, ap, sym, _∙_}
 use denote.Ref.{now}
 use Rattle.octets.proofs.Laws.Steps.{the}
 use Rattle.rules.specs.Reading.{judge}
 use Rattle.rules.specs.Summary.{sectionOf}
-use Rattle.rules.specs.declared.refusal.Refusal.{Refusal}
 use Rattle.rules.specs.declared.section.Section.{Section}
-use Rattle.rules.specs.declared.section.Summarized.the-variants.{Accepted, Refused}
-use Rattle.rules.proofs.Laws.Accepted.{summarize-passed, summarize-refused}
+use Rattle.rules.specs.declared.section.Summarized.the-variants.{Accepted}
+use Rattle.rules.proofs.Laws.Accepted.{summarize-passed}
+use Rattle.reading.proofs.Laws.Passed.{none-told, refused-told}
 use borrow.Author.Needs.{needs}
 use Rattle.reading.proofs.section.summarize.Statement.{statement}
 use Rattle.reading.proofs.section.summarize.Tie as tie
 
 returns : tie.Need-returns
-returns c =
-    let a = the tie.Start (search) .args in
-    let r = the tie.After-judge (search) .judge .ensures in
-    let some = subst (λ (x : Refusal). ¬ (x .number ≡ 0)) r (c .if1 .taken) in
-    ap Refused r ∙ sym (summarize-refused (a .security-first) (now (a .s)) some)
+returns c = sym (refused-told _ _ (the tie.After-judge (search) .judge .ensures) (c .if1 .taken))
 
 none : (c : tie.Else1) → judge (the tie.Start (search) .args .security-first) (now (the tie.Start (search) .args .s)) .number ≡ 0
-none c = sym (ap (λ (x : Refusal). x .number) (the tie.After-judge (search) .judge .ensures)) ∙ c .if1 .left
+none c = none-told _ _ (the tie.After-judge (search) .judge .ensures) (c .if1 .left)
 
 header-at-requires : tie.Need-header-at-requires
 header-at-requires c κs = none (search)

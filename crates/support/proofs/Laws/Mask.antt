@@ -68,10 +68,12 @@ pub security-runs : (f : SecurityFields) (identity provider size : ℕ)
     ≡ securityMask f
 unfolding securityLength padded
 security-runs f identity provider size i p z =
-    let rest : size - (provider + f .«provider_info_size» .0) ≡ padding 4 (f .«provider_info_size» .0) = omega arith in
-    rw (security-parts, security-fixed, rest, i, p, ← replicate-append-replicate {A = ℕ} 14 (judgedIdentity f) 8)
-    (ap (λ (r : List ℕ). replicate 1 8 ++ (replicate 1 4 ++ (replicate 14 8 ++ r)))
-    (regroup (replicate (judgedIdentity f) 8) (replicate (providerAt f - (16 + judgedIdentity f)) 0) (replicate (f .«provider_info_size» .0) 8) (replicate (padding 4 (f .«provider_info_size» .0)) 0)))
+    let j = judgedIdentity f in
+    let n = f .«provider_info_size» .0 in
+    let rest : size - (provider + n) ≡ padding 4 n = omega arith in
+    let parts = regroup (replicate j 8) (replicate (providerAt f - (16 + j)) 0) (replicate n 8) (replicate (padding 4 n) 0) in
+    rw (security-parts, security-fixed, rest, i, p, ← replicate-append-replicate {A = ℕ} 14 j 8)
+    (ap (λ (r : List ℕ). replicate 1 8 ++ (replicate 1 4 ++ (replicate 14 8 ++ r))) parts)
 
 -- the label follows the fixed bytes
 pub properties-runs : (f : PropertiesFields) (label size : ℕ) → label ≡ labelBytes f → size ≡ propertiesLength f

@@ -45,6 +45,14 @@ end-told c =
     ap (λ (p : PropertiesParts). p .«section_length» .0) (c .properties-parts .ensures)
     ∙ ap (λ (f : PropertiesFields). the tie.Start (search) .args .at .0 + propertiesLength f) (fields (c .before .before .before))
 
+label-told : (c : tie.After-label-at)
+    → let f : tie.After-fields-at = search in now (c .label-at .result) ≡ partOf (input f) (propertiesParts (start f) (held f) .label)
+unfolding input start
+label-told c =
+    let a = the tie.Start (search) .args in
+    let labelOf : PropertiesFields → List ℕ = λ f. partOf (now (a .s)) (propertiesParts (a .at .0) f .label) in
+    c .label-at .ensures ∙ ap labelOf (fields (search))
+
 returns-2 : tie.Need-returns-2
 unfolding input start propertiesNumber readProperties firstOf
 returns-2 c = let n = steps-told (search) in search (steps, told) depth 20
@@ -70,8 +78,7 @@ returns-5 c =
     let n = steps-told (search) in
     let small : start (search) + propertiesLength (held (search)) ≤ limit = omega (arith, end-told (search)) in
     let whole : start (search) + propertiesLength (held (search)) ≤ length (input (search)) = omega (arith, end-told (search)) in
-    let label = the tie.After-label-at (search) .label-at .ensures ∙ ap (λ (f : PropertiesFields). partOf (input (search)) (propertiesParts (start (search)) f .label)) (fields (search)) in
-    let last = c .label-contents .ensures ∙ ap labelContents label in
+    let last = c .label-contents .ensures ∙ ap labelContents (label-told (search)) in
     search (steps, told) depth 20
 
 pub properties-number-spec : {M : Type 1} → statement M

@@ -1,6 +1,6 @@
 -- A difference in header, properties or contents refutes `SameSummary`; else it holds.
-use Prim.Native.Nat.{ℕ, _≤_}
-use mathlib.Core.Path.{_≡_, ap, ap₂, sym, subst, _∙_}
+use Prim.Native.Nat.{ℕ}
+use mathlib.Core.Path.{_≡_, ap, _∙_}
 use mathlib.Core.Bool.{Bool}
 use mathlib.Core.List.{List}
 use native.Mathlib.Omega.{arith}
@@ -9,10 +9,8 @@ use lib.ListN.{drop}
 use Rattle.octets.proofs.Laws.Steps.{the}
 use Rattle.rules.specs.Properties.{propertiesFields}
 use Rattle.rules.specs.Reading.{fieldsAt, headerAt, startAt}
-use Rattle.rules.specs.Refusal.{limit}
-use Rattle.rules.specs.declared.properties.PropertiesFields.{PropertiesFields}
 use Rattle.rules.specs.declared.security.SecurityHeader.{SecurityHeader}
-use Rattle.reading.specs.Same.{SameContents, SameHeader}
+use Rattle.reading.specs.Same.{SameHeader}
 use Rattle.reading.proofs.Laws.Decided.{Decides, fails, holds, refuted, shown}
 use Rattle.reading.proofs.Laws.Fields.{Passed, accepted}
 use Rattle.reading.proofs.Laws.Same.{Contents, same-summary, same-summary-contents, same-summary-header, same-summary-properties}
@@ -39,9 +37,12 @@ right-read c = let s : tie.Start = search in accepted (s .args .security-first) 
 
 -- what is compared is what the definitions read
 headers : (c : tie.After-same-header)
-    → Decides (c .same-header .result) (SameHeader (headerAt (first (c .before)) (left (c .before))) (headerAt (first (c .before)) (right (c .before))))
+    → let h = c .before in Decides (c .same-header .result) (SameHeader (headerAt (first h) (left h)) (headerAt (first h) (right h)))
 unfolding first left right
-headers c = rw (c .before .before .header-at .ensures, c .before .header-at2 .ensures) at (c .same-header .ensures)
+headers c =
+    let g = the tie.After-header-at (search) .header-at .ensures in
+    let h = the tie.After-header-at2 (search) .header-at2 .ensures in
+    rw (g, h) at (c .same-header .ensures)
 
 returns : tie.Need-returns
 unfolding first left right
@@ -60,26 +61,28 @@ fields-at-requires : tie.Need-fields-at-requires
 unfolding left
 fields-at-requires c κs = omega (arith, left-start (search), left-read (search) .fixed)
 
-left-fields : (c : tie.After-fields-at) → c .fields-at .result ≡ fieldsAt (first (c .before .before .before)) (left (c .before .before .before))
+left-fields : (c : tie.After-fields-at)
+    → let h = the tie.After-header-at2 (search) in c .fields-at .result ≡ fieldsAt (first h) (left h)
 unfolding first left fieldsAt
 left-fields c =
-    let h = c .before .before .before in
+    let h = the tie.After-header-at2 (search) in
     c .fields-at .ensures .0 ∙ ap (λ (p : ℕ). propertiesFields (drop p (left h))) (left-start h)
 
 fields-at-requires-2 : tie.Need-fields-at-requires-2
 unfolding right
 fields-at-requires-2 c κs = omega (arith, right-start (search), right-read (search) .fixed)
 
-right-fields : (c : tie.After-fields-at2) → c .fields-at2 .result ≡ fieldsAt (first (c .before .before .before .before)) (right (c .before .before .before .before))
+right-fields : (c : tie.After-fields-at2)
+    → let h = the tie.After-header-at2 (search) in c .fields-at2 .result ≡ fieldsAt (first h) (right h)
 unfolding first right fieldsAt
 right-fields c =
-    let h = c .before .before .before .before in
+    let h = the tie.After-header-at2 (search) in
     c .fields-at2 .ensures .0 ∙ ap (λ (p : ℕ). propertiesFields (drop p (right h))) (right-start h)
 
 fields : (c : tie.After-same-properties)
-    → let h = c .before .before .before .before .before in
+    → let h = the tie.After-header-at2 (search) in
     Decides (c .same-properties .result) (fieldsAt (first h) (left h) ≡ fieldsAt (first h) (right h))
-fields c = rw (left-fields (c .before .before), right-fields (c .before)) at (c .same-properties .ensures)
+fields c = rw (left-fields (search), right-fields (search)) at (c .same-properties .ensures)
 
 returns-2 : tie.Need-returns-2
 unfolding first left right
@@ -92,13 +95,13 @@ same-contents-requires c κs = (
 )
 
 contents : (c : tie.After-same-contents)
-    → let h = c .before .before .before .before .before .before .before in
+    → let h = the tie.After-header-at2 (search) in
     Decides (c .same-contents .result) (Contents (first h) (left h) (right h))
 unfolding first left right
 contents c =
-    let h = c .before .before .before .before .before .before .before in
-    rw (h .before .header-at .ensures, h .header-at2 .ensures, left-fields (c .before .before .before .before), right-fields (c .before .before .before))
-    at (c .same-contents .ensures)
+    let g = the tie.After-header-at (search) .header-at .ensures in
+    let h = the tie.After-header-at2 (search) .header-at2 .ensures in
+    rw (g, h, left-fields (search), right-fields (search)) at (c .same-contents .ensures)
 
 returns-3 : tie.Need-returns-3
 unfolding first left right

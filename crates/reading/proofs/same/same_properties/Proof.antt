@@ -35,19 +35,29 @@ returns-9 c = fails (λ e. c .if9 .taken (ap (λ (x : PropertiesFields). x .«en
 returns-10 : tie.Need-returns-10
 returns-10 c = fails (λ e. c .if10 .taken (ap (λ (x : PropertiesFields). x .«extension_size» .0) e))
 
+-- `search` does not reach the first tests from here: each is named from the one behind it
 returns-11 : tie.Need-returns-11
 returns-11 c =
+    let nine = c .before .before .before in
+    let eight = nine .before .before .before in
+    let seven = eight .before .before .before in
+    let six = seven .before .before .before in
+    let five = six .before .before .before in
+    let four = five .before .before .before in
+    let three = four .before .before .before in
+    let two = three .before .before .before in
+    let one = two .before .before .before in
     holds (λ i.
     record {
-      flags = c .before .before .before .before .before .before .before .before .before .before .before .before .before .before .before .before .before .before .before .before .before .before .before .before .before .before .before .if1 .left i;
-      «label_length» = record { 0 = c .before .before .before .before .before .before .before .before .before .before .before .before .before .before .before .before .before .before .before .before .before .before .before .before .if2 .left i };
-      «message_class» = c .before .before .before .before .before .before .before .before .before .before .before .before .before .before .before .before .before .before .before .before .before .if3 .left i;
-      «body_type» = c .before .before .before .before .before .before .before .before .before .before .before .before .before .before .before .before .before .before .if4 .left i;
-      «message_size» = record { 0 = c .before .before .before .before .before .before .before .before .before .before .before .before .before .before .before .if5 .left i };
-      «allocation_body_size» = record { 0 = c .before .before .before .before .before .before .before .before .before .before .before .before .if6 .left i };
-      «privacy_level» = c .before .before .before .before .before .before .before .before .before .if7 .left i;
-      «hash_algorithm» = c .before .before .before .before .before .before .if8 .left i;
-      «encryption_algorithm» = c .before .before .before .if9 .left i;
+      flags = one .if1 .left i;
+      «label_length» = record { 0 = two .if2 .left i };
+      «message_class» = three .if3 .left i;
+      «body_type» = four .if4 .left i;
+      «message_size» = record { 0 = five .if5 .left i };
+      «allocation_body_size» = record { 0 = six .if6 .left i };
+      «privacy_level» = seven .if7 .left i;
+      «hash_algorithm» = eight .if8 .left i;
+      «encryption_algorithm» = nine .if9 .left i;
       «extension_size» = record { 0 = c .if10 .left i };
     })
 

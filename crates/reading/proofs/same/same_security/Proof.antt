@@ -1,5 +1,6 @@
 -- A field that differs refutes equality; where none does, the records are equal field by field.
 use mathlib.Core.Path.{ap}
+use Rattle.octets.proofs.Laws.Steps.{the}
 use Rattle.rules.specs.declared.security.SecurityFields.{SecurityFields}
 use Rattle.reading.proofs.Laws.Decided.{fails, holds}
 use Rattle.reading.proofs.same.same_security.Statement.{statement}
@@ -25,14 +26,20 @@ returns-6 c = fails (λ e. c .if6 .taken (ap (λ (x : SecurityFields). x .«prov
 
 returns-7 : tie.Need-returns-7
 returns-7 c =
+    let flags = the tie.Else1 (search) .if1 .left in
+    let sender-id-size = the tie.Else2 (search) .if2 .left in
+    let encryption-key-size = the tie.Else3 (search) .if3 .left in
+    let signature-size = the tie.Else4 (search) .if4 .left in
+    let sender-cert-size = the tie.Else5 (search) .if5 .left in
+    let provider-info-size = c .if6 .left in
     holds (λ i.
     record {
-      flags = c .before .before .before .before .before .before .before .before .before .before .before .before .before .before .before .if1 .left i;
-      «sender_id_size» = record { 0 = c .before .before .before .before .before .before .before .before .before .before .before .before .if2 .left i };
-      «encryption_key_size» = record { 0 = c .before .before .before .before .before .before .before .before .before .if3 .left i };
-      «signature_size» = record { 0 = c .before .before .before .before .before .before .if4 .left i };
-      «sender_cert_size» = record { 0 = c .before .before .before .if5 .left i };
-      «provider_info_size» = record { 0 = c .if6 .left i };
+      flags = flags i;
+      «sender_id_size» = record { 0 = sender-id-size i };
+      «encryption_key_size» = record { 0 = encryption-key-size i };
+      «signature_size» = record { 0 = signature-size i };
+      «sender_cert_size» = record { 0 = sender-cert-size i };
+      «provider_info_size» = record { 0 = provider-info-size i };
     })
 
 pub same-security-spec : {M : Type 1} → statement M

@@ -13,7 +13,8 @@ use Rattle.reading.proofs.section.properties_start.Tie as tie
 returns : tie.Need-returns
 unfolding startRead
 returns c =
-    let length = c .security-length .ensures ∙ ap (λ (f : SecurityFields). min (limit + 1) (securityLength f)) (the tie.After-security-fields (search) .security-fields .ensures .0) in
+    let fields = the tie.After-security-fields (search) .security-fields .ensures .0 in
+    let length = c .security-length .ensures ∙ ap (λ (f : SecurityFields). min (limit + 1) (securityLength f)) fields in
     search steps depth 20
 
 returns-2 : tie.Need-returns-2

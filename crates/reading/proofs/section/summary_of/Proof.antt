@@ -7,7 +7,10 @@ use Rattle.reading.proofs.section.summary_of.Tie as tie
 
 returns : tie.Need-returns
 unfolding summaryOf
-returns c = simp (the tie.After-properties-parts (search) .properties-parts .ensures, the tie.After-authentication-fails (search) .authentication-fails .ensures, c .decryption-fails .ensures)
+returns c =
+    let parts = the tie.After-properties-parts (search) .properties-parts .ensures in
+    let authentication = the tie.After-authentication-fails (search) .authentication-fails .ensures in
+    simp (parts, authentication, c .decryption-fails .ensures)
 
 pub summary-of-spec : {M : Type 1} → statement M
 summary-of-spec =

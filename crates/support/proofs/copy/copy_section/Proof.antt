@@ -10,15 +10,15 @@ use Rattle.octets.specs.Over.{over, overAt}
 use Rattle.octets.proofs.Laws.Over.{over-rest}
 use Rattle.octets.proofs.Laws.Part.{rest-drop}
 use Rattle.octets.proofs.Laws.Steps.{the}
-use Rattle.rules.specs.Judged.{copyOf, judged, masked, propertiesMask}
+use Rattle.rules.specs.Judged.{copyOf, masked, propertiesMask}
 use Rattle.rules.specs.Properties.{propertiesLength}
-use Rattle.rules.specs.Reading.{fieldsAt, headerAt, startAt, summaryAt}
+use Rattle.rules.specs.Reading.{headerAt, startAt, summaryAt}
 use Rattle.rules.specs.Summary.{summaryOf}
 use Rattle.rules.specs.declared.properties.PropertiesFields.{PropertiesFields}
 use Rattle.rules.proofs.Laws.Accepted.{judge-passed}
 use Rattle.rules.proofs.Laws.Judged.{headerMask, judged-eq, length-headerMask, length-propertiesBits}
-use Rattle.reading.proofs.Laws.Passed.{Ends, section-ends}
-use Rattle.support.specs.Laid.{HeaderLaid, SectionLaid}
+use Rattle.reading.proofs.Laws.Passed.{section-ends}
+use Rattle.support.specs.Laid.{SectionLaid}
 use Rattle.support.proofs.Laws.Copied.{Copied, copied-next}
 use Rattle.support.proofs.Laws.Laid.{properties-laid}
 use borrow.Author.Needs.{needs}
@@ -44,21 +44,6 @@ copy-header-requires c κs =
     let l = start .pre in
     let e = ends start in
     record { passed = l .passed; start = l .start; output = omega arith }
-
-sub-copy-properties : tie.Need-sub-copy-properties
-sub-copy-properties c = omega (arith, ends (search))
-
-part-copy-properties-start : tie.Need-part-copy-properties-start
-part-copy-properties-start c = omega (arith, ends (search))
-
-sub-t15 : tie.Need-sub-t15
-sub-t15 c = omega (arith, ends (search))
-
-sub-copy-properties-2 : tie.Need-sub-copy-properties-2
-sub-copy-properties-2 c = omega (arith, ends (search))
-
-part-copy-properties-start-2 : tie.Need-part-copy-properties-start-2
-part-copy-properties-start-2 c = omega (arith, ends (search))
 
 copy-properties-requires : tie.Need-copy-properties-requires
 copy-properties-requires c κs =
@@ -94,23 +79,24 @@ returns c =
     let f = start .args .properties in
     let at = start .args .at .0 in
     let out = header .copy-header .last .1 .1 .1 .0 in
-    let later = c .before .before .copy-properties .last .1 .1 .1 .0 in
+    let copied = the tie.After-copy-properties (search) .copy-properties in
     let lent = take (length out - at) (drop at out) in
-    let part = ap (λ (p : List ℕ). over (masked (propertiesMask f) p) lent) (rest-drop s at) in
-    let rest = over-rest at (masked (propertiesMask f) (drop at s)) out later (omega (arith, ends start)) (c .before .before .copy-properties .ensures ∙ part) in
-    both (start .args .security-first) s (now (start .args .out)) out _ f at (start .args .end .0) (start .pre) (header .copy-header .ensures) rest
+    let part = copied .ensures ∙ ap (λ (p : List ℕ). over (masked (propertiesMask f) p) lent) (rest-drop s at) in
+    let rest = over-rest at (masked (propertiesMask f) (drop at s)) out (copied .last .1 .1 .1 .0) (omega (arith, ends start)) part in
+    both (start .args .security-first) s (now (start .args .out)) out _ f at (start .args .end .0) (start .pre) (header .copy-header .ensures)
+    rest
 
 pub copy-section-spec : {M : Type 1} → statement M
 copy-section-spec =
     tie.close
     (tie.spec
     copy-header-requires
-    sub-copy-properties
-    part-copy-properties-start
+    (λ c. omega (arith, ends (search)))
+    (λ c. omega (arith, ends (search)))
     (λ c. search needs)
-    sub-t15
-    sub-copy-properties-2
-    part-copy-properties-start-2
+    (λ c. omega (arith, ends (search)))
+    (λ c. omega (arith, ends (search)))
+    (λ c. omega (arith, ends (search)))
     (λ c. search needs)
     copy-properties-requires
     (λ c. search needs)

@@ -1,7 +1,7 @@
 -- The refusal and the output's length pick the case.
 use Prim.Native.Nat.{ℕ}
 use denote.Ref.{now}
-use mathlib.Core.Path.{_≡_, ap, subst, sym, _∙_}
+use mathlib.Core.Path.{_≡_, ap, _∙_}
 use mathlib.Core.Bool.{Bool}
 use mathlib.Core.List.{List, _++_}
 use native.Mathlib.Omega.{arith}
@@ -13,13 +13,11 @@ use Rattle.rules.specs.Judged.{copyOf, judged}
 use Rattle.rules.specs.Reading.{fieldsAt, judge, startAt, summaryAt}
 use Rattle.rules.specs.Refusal.{bytes}
 use Rattle.rules.specs.Support.{copyAnswer, copyBytes, supportAnswer, supportBytes}
-use Rattle.rules.specs.declared.refusal.Refusal.{Refusal}
 use Rattle.rules.specs.declared.section.Output.the-variants.{Written}
-use Rattle.rules.proofs.Laws.Accepted.{judge-passed, summarize-passed, summarize-refused}
+use Rattle.rules.proofs.Laws.Accepted.{judge-passed, summarize-passed}
 use Rattle.rules.proofs.Laws.Judged.{judged-le, length-judged}
 use Rattle.rules.proofs.Laws.Masked.{length-masked-le}
-use Rattle.reading.proofs.Laws.Passed.{end-told, fields-told, start-told}
-use Rattle.support.specs.Laid.{SectionLaid}
+use Rattle.reading.proofs.Laws.Passed.{end-told, fields-told, none-told, refused-told, start-told}
 use borrow.Author.Needs.{needs}
 use Rattle.support.proofs.copy.support_copy.Statement.{statement}
 use Rattle.support.proofs.copy.support_copy.Tie as tie
@@ -27,10 +25,8 @@ use Rattle.support.proofs.copy.support_copy.Tie as tie
 returns : tie.Need-returns
 unfolding supportAnswer supportBytes copyAnswer copyBytes
 returns c =
-    let a = the tie.Start (search) .args in
-    let r = the tie.After-judge (search) .judge .ensures in
-    let e = summarize-refused (a .security-first) (now (a .s)) (subst (λ (x : Refusal). ¬ (x .number ≡ 0)) r (c .if1 .taken)) in
-    (rw (e, ← r), rw e)
+    let refused = refused-told _ _ (the tie.After-judge (search) .judge .ensures) (c .if1 .taken) in
+    (rw refused, rw refused)
 
 first : tie.Else1 → Bool
 first c = the tie.Start (search) .args .security-first
@@ -40,7 +36,7 @@ input c = now (the tie.Start (search) .args .s)
 
 none : (c : tie.Else1) → judge (first c) (input c) .number ≡ 0
 unfolding first input
-none c = sym (ap (λ (x : Refusal). x .number) (the tie.After-judge (search) .judge .ensures)) ∙ c .if1 .left
+none c = none-told _ _ (the tie.After-judge (search) .judge .ensures) (c .if1 .left)
 
 start : (c : tie.After-properties-start) → c .properties-start .result .0 ≡ startAt (first (c .before)) (input (c .before))
 unfolding first input
@@ -93,7 +89,7 @@ returns-3 c =
     let a = judge-passed (first (search)) s .0 (none (search)) in
     let whole = length-masked-le (judged m) s (judged-le (first (search)) s m a) ∙ length-judged (first (search)) s m a in (
       rw (e, room) (ap (λ (n : ℕ). Written (bytes n)) size),
-      rw (e, room) (c .before .before .copy-section .ensures ∙ ap (λ (k : ℕ). copyOf m s ++ drop k out) whole),
+      rw (e, room) (the tie.After-copy-section (search) .copy-section .ensures ∙ ap (λ (k : ℕ). copyOf m s ++ drop k out) whole),
     )
 
 pub support-copy-spec : {M : Type 1} → statement M

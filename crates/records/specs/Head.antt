@@ -1,4 +1,5 @@
--- 01, the listing program's file: "per record the mark 0x57 0x52, one byte 1 or 0 for security first, one zero byte, a 4-byte length up to 32,768, the section".
+-- 01, the listing program's file: "per record the mark 0x57 0x52, one byte 1 or 0 for security first, one zero byte, a 4-byte length
+-- up to 32,768, the section".
 use Prim.Native.Nat.{ℕ, _-_}
 use mathlib.Core.Bool.{not, cond}
 use mathlib.Core.List.{List, _∷_}

@@ -3,15 +3,14 @@ use Prim.Native.Nat.{ℕ}
 use denote.Ref.{now}
 use mathlib.Core.Bool.{Bool}
 use mathlib.Core.List.{List}
-use mathlib.Core.Path.{_≡_, ap, ap₂, subst, sym, _∙_}
+use mathlib.Core.Path.{_≡_, ap₂}
 use Rattle.octets.proofs.Laws.Steps.{the}
-use Rattle.rules.specs.Reading.{fieldsAt, judge, summaryAt}
+use Rattle.rules.specs.Reading.{judge, summaryAt}
 use Rattle.rules.specs.Refusal.{bytes}
 use Rattle.rules.specs.Summary.{summaryOf}
 use Rattle.rules.specs.declared.properties.PropertiesFields.{PropertiesFields}
-use Rattle.rules.specs.declared.refusal.Refusal.{Refusal}
-use Rattle.rules.proofs.Laws.Accepted.{summarize-passed, summarize-refused}
-use Rattle.reading.proofs.Laws.Passed.{end-told, fields-told}
+use Rattle.rules.proofs.Laws.Accepted.{summarize-passed}
+use Rattle.reading.proofs.Laws.Passed.{end-told, fields-told, none-told, refused-told}
 use borrow.Author.Needs.{needs}
 use Rattle.records.specs.Record.{answerOf}
 use Rattle.records.proofs.record.answer_of.Statement.{statement}
@@ -33,10 +32,7 @@ lineOf f size =
 
 returns : tie.Need-returns
 unfolding answerOf
-returns c =
-    let a = the tie.Start (search) .args in
-    let r = the tie.After-judge (search) .judge .ensures in
-    rw (summarize-refused (a .security-first) (now (a .section)) (subst (λ (x : Refusal). ¬ (x .number ≡ 0)) r (c .if1 .taken)), ← r)
+returns c = rw (refused-told _ _ (the tie.After-judge (search) .judge .ensures) (c .if1 .taken))
 
 first : tie.Else1 → Bool
 first c = the tie.Start (search) .args .security-first
@@ -46,7 +42,7 @@ input c = now (the tie.Start (search) .args .section)
 
 none : (c : tie.Else1) → judge (first c) (input c) .number ≡ 0
 unfolding first input
-none c = sym (ap (λ (x : Refusal). x .number) (the tie.After-judge (search) .judge .ensures)) ∙ c .if1 .left
+none c = none-told _ _ (the tie.After-judge (search) .judge .ensures) (c .if1 .left)
 
 returns-2 : tie.Need-returns-2
 unfolding first input answerOf summaryAt summaryOf

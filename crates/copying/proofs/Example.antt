@@ -5,7 +5,8 @@ use Rattle.octets.specs.Padding.{padded, padding}
 use Rattle.octets.specs.Part.{within}
 use Rattle.rules.specs.Judged.{copyOf, masked, partBits, propertiesBits, sectionBits, securityBits}
 use Rattle.rules.specs.Listed.{classes, listed}
-use Rattle.rules.specs.Properties.{bodyAt, extensionAt, labelContents, labelText, propertiesFields, propertiesLength, propertiesParts, propertiesRow, propertiesSteps, readProperties}
+use Rattle.rules.specs.Properties.{bodyAt, extensionAt, labelContents, labelText, propertiesFields, propertiesLength}
+use Rattle.rules.specs.Properties.{propertiesParts, propertiesRow, propertiesSteps, readProperties}
 use Rattle.rules.specs.Reading.{fieldsAt, headerAt, judge, propertiesNumber, securityHeader, securityNumber, startAt, summarize, summaryAt}
 use Rattle.rules.specs.Refusal.{firstOf}
 use Rattle.rules.specs.Row.{fieldBits, lowest, rowBits}

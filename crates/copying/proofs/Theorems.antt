@@ -14,7 +14,6 @@ use Rattle.rules.specs.Judged.{Agrees, copyOf}
 use Rattle.rules.specs.Reading.{SameSummary, summarize}
 use Rattle.rules.specs.Refusal.{bytes, refusal}
 use Rattle.rules.specs.Support.{copyAnswer, copyBytes as supportBytesOf, supportAnswer, supportBytes}
-use Rattle.rules.specs.declared.refusal.Refusal.{Refusal}
 use Rattle.rules.specs.declared.section.Output.{Output}
 use Rattle.rules.specs.declared.section.Output.the-variants.{Written, Refused as Output·Refused}
 use Rattle.rules.specs.declared.section.Summarized.{Summarized}
@@ -172,7 +171,8 @@ accepted-output s out h m found e = ap (bytesFrom s out) found ∙ go (ltb (leng
     front : List ℕ
     front = headBytes (record { «security_first» = h .«security_first»; length = m .parts .«section_length» })
 
-    answer : supportAnswer (h .«security_first») section behind ≡ cond (ltb (length behind) n) (Output·Refused (refusal 13 0)) (Written (m .parts .«section_length»))
+    answer : supportAnswer (h .«security_first») section behind
+        ≡ cond (ltb (length behind) n) (Output·Refused (refusal 13 0)) (Written (m .parts .«section_length»))
     answer = ap (copyAnswer behind) e
 
     bytes-told : supportBytes (h .«security_first») section behind ≡ cond (ltb (length behind) n) behind (copyOf m section ++ drop n behind)

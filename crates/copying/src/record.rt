@@ -59,7 +59,9 @@ fn copy_section(section: &[u8], security_first: bool, out: &mut [u8]) -> Output
 fn copy_behind(head: Head, section: &[u8], out: &mut [u8]) -> CopiedRecord
     requires { ⌜ head .length .0 ≤ 32768 ⌝ }
     ensures { λ r. ⌜ r ≡ answerBehind head (supportAnswer (head .«security_first») (now (section .entry)) (drop 8 (now (out .entry)))) ⌝ }
-    ensures { λ _. ⌜ now (out .exit) ≡ bytesBehind head (now (section .entry)) (now (out .entry)) (supportAnswer (head .«security_first») (now (section .entry)) (drop 8 (now (out .entry)))) ⌝ }
+    ensures { λ _. ⌜ now (out .exit)
+        ≡ bytesBehind head (now (section .entry)) (now (out .entry))
+        (supportAnswer (head .«security_first») (now (section .entry)) (drop 8 (now (out .entry)))) ⌝ }
 {
     let size = Bytes(HEAD + head.length.0);
     let security_first = head.security_first;

@@ -17,7 +17,8 @@ use Rattle.rules.specs.declared.properties.PropertiesFields.{PropertiesFields}
 use Rattle.rules.specs.declared.section.Summarized.the-variants.{Accepted}
 use Rattle.rules.specs.declared.section.Summary.{Summary}
 use Rattle.rules.specs.declared.security.SecurityHeader.{SecurityHeader}
-use Rattle.rules.proofs.Laws.Accepted.{header-fits, security-fields, section-fits, SecurityPassed, PropertiesPassed, HeaderPassed, SectionPassed, section-passed}
+use Rattle.rules.proofs.Laws.Accepted.{HeaderPassed, PropertiesPassed, SectionPassed, SecurityPassed}
+use Rattle.rules.proofs.Laws.Accepted.{header-fits, section-fits, section-passed, security-fields}
 use Rattle.rules.proofs.Laws.Judged.{identity-le-provider}
 use Rattle.secrecy.proofs.Properties.{SameProperties}
 use Rattle.secrecy.proofs.Section.{SameHeader, SameSection}

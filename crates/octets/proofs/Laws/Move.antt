@@ -57,4 +57,6 @@ module _ (start end : ℕ) (s : List ℕ) where
         → over (take i (take (end - start) (drop start s))) s ≡ movedToFront start end s
     unfolding movedToFront
     moved-all i h =
-        rw (take-all i (take (end - start) (drop start s)) (omega (arith, length-take (end - start) (drop start s))), within-in s start (end - start) (omega arith))
+        let part = take (end - start) (drop start s) in
+        let all = take-all i part (omega (arith, length-take (end - start) (drop start s))) in
+        rw (all, within-in s start (end - start) (omega arith))

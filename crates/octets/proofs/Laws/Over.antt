@@ -9,7 +9,8 @@ use native.Mathlib.Nat.{add-assoc, zero-add}
 use native.Mathlib.Numerals.{add-one}
 use native.Mathlib.Omega.{arith}
 use lib.ListN.{length, getD, take, drop, set, replicate, length-append, length-drop, length-replicate, replicate-append-replicate, take-append-drop}
-use lib.Seq.{append-snoc, length-take-le, take-add, take-all, take-append-le, take-at, take-suc, take-take, drop-at, drop-append-add, drop-cons, drop-drop, drop-length, set-at, set-split}
+use lib.Seq.{append-snoc, length-take-le, take-add, take-all, take-append-le, take-at, take-suc, take-take}
+use lib.Seq.{drop-at, drop-append-add, drop-cons, drop-drop, drop-length, set-at, set-split}
 use Rattle.octets.proofs.Laws.Part.{rest-drop}
 use Rattle.octets.specs.Over.{over, overAt, copied}
 
@@ -51,7 +52,9 @@ over-more {now} at p out i byte e l h hn = over-one i byte now hn ∙ rw (e, l) 
 pub over-part : {now : List ℕ} (i : ℕ) (part out : List ℕ) → now ≡ over (take i part) out → i < length part → i < length now
     → set now i (getD part i 0) ≡ over (take (i + 1) part) out
 over-part i part out e h hn =
-    over-more 0 (take i part) out i (getD part i 0) (e ∙ sym (over-start (take i part) out)) (omega (arith, length-take-le i part (omega arith))) (omega arith) hn
+    let before = e ∙ sym (over-start (take i part) out) in
+    let size = length-take-le i part (omega arith) in
+    over-more 0 (take i part) out i (getD part i 0) before (omega (arith, size)) (omega arith) hn
     ∙ rw (add-one, take-suc part i 0) (over-start (take i part ++ (getD part i 0 ∷ [])) out)
 
 -- one byte before: a turn of a loop that goes backwards
@@ -103,10 +106,11 @@ pub copied-whole : (s out : List ℕ) → length s ≡ length out → copied s o
 copied-whole s out e = copied-fits s out (omega arith) ∙ over-whole s out e
 
 -- by way of an array as long as both
-pub copied-through : (n : ℕ) (s out : List ℕ) → length s ≡ n → length out ≡ n → copied (copied s (replicate n 0)) out ≡ s
-copied-through n s out a b =
-    ap (λ (x : List ℕ). copied x out) (copied-whole s (replicate n 0) (a ∙ sym (length-replicate {A = ℕ} n 0)))
-    ∙ copied-whole s out (a ∙ sym b)
+pub copied-through : {array later : List ℕ} (n : ℕ) (s out : List ℕ) → length s ≡ n → length out ≡ n
+    → array ≡ copied s (replicate n 0) → later ≡ copied array out → later ≡ s
+copied-through n s out a b into from =
+    let whole = into ∙ copied-whole s (replicate n 0) (a ∙ sym (length-replicate {A = ℕ} n 0)) in
+    from ∙ ap (λ (x : List ℕ). copied x out) whole ∙ copied-whole s out (a ∙ sym b)
 
 -- a lent part of n bytes from an offset: what it then holds is written from there on
 module _ (at n : ℕ) (out : List ℕ) (h : at + n ≤ length out) where
@@ -198,12 +202,13 @@ pub written-take : {p out : List ℕ} {end : ℕ} {now : List ℕ} → Written p
 unfolding over
 written-take {p} {out} {end} w = ap (take end) (w .bytes) ∙ take-at p (drop (length p) out) end (w .ends)
 
--- the next bytes of a part, through a lent part of k, which may begin before them
-pub written-block : {out now : List ℕ} (s : List ℕ) (i j n k : ℕ) (later : List ℕ) → Written (take i s) out i now
-    → j ≤ i → i ≤ n → n ≤ length s → k ≡ n - j → later ≡ take k (drop j s)
-    → Written (take n s) out n (take j now ++ (later ++ drop k (drop j now)))
+-- the next bytes of a part, through a lent part of it from j to n, which may begin before them
+pub written-block : {out now : List ℕ} (s : List ℕ) (i j n : ℕ) (later : List ℕ) → Written (take i s) out i now
+    → j ≤ i → i ≤ n → n ≤ length s → later ≡ take (n - j) (drop j s)
+    → Written (take n s) out n (take j now ++ (later ++ drop (n - j) (drop j now)))
 unfolding over
-written-block {out} {now} s i j n k later w a b o e l =
+written-block {out} {now} s i j n later w a b o l =
+    let k = n - j in
     let split : now ≡ take i s ++ drop i out = w .bytes ∙ ap (λ (m : ℕ). take i s ++ drop m out) (w .ends) in
     let front : take j now ≡ take j s =
     ap (take j) split ∙ take-append-le j (take i s) (drop i out) (omega (arith, w .ends)) ∙ take-take j i s a in
@@ -229,4 +234,4 @@ pub written-last : {out now : List ℕ} (s : List ℕ) (i n : ℕ) (later : List
 written-last {out} {now} s i n later w a b o m l =
     let p : length (take (n - i) (drop i s)) ≡ n - i = length-take-le (n - i) (drop i s) (rw length-drop (omega arith)) in
     let q : length (take (n - i) (drop i now)) ≡ n - i = length-take-le (n - i) (drop i now) (rw length-drop (omega arith)) in
-    written-block s i i n (n - i) later w (omega arith) a b refl (l ∙ copied-whole (take (n - i) (drop i s)) (take (n - i) (drop i now)) (p ∙ sym q))
+    written-block s i i n later w (omega arith) a b (l ∙ copied-whole (take (n - i) (drop i s)) (take (n - i) (drop i now)) (p ∙ sym q))

@@ -2,7 +2,7 @@
 -- Each law ends in `r ≡ ..` of a definition's next test, and asks for that test and for the rest. The tests that control passed are in the
 -- fields of what the need is handed, where `search` finds them: so every return of every such function has the same answer.
 use Prim.Native.Nat.{ℕ, _≤_, _<_}
-use mathlib.Core.Path.{_≡_, refl, sym, subst, _∙_}
+use mathlib.Core.Path.{_≡_, sym, subst, _∙_}
 use mathlib.Core.Bool.{Bool, true, false, not, _&&_, _||_, cond}
 use borrow.Author.Tests.{eq-eqb, le-leb, le-ltb, lt-leb, lt-ltb, ne-eqb, not-false, not-true}
 use lib.Dec.{eqb, leb, ltb}
@@ -117,7 +117,28 @@ call-fails r t e p = flag-not-true r p ∙ e
 pub call-holds : (r t : Bool) → r ≡ t → not r ≡ false → true ≡ t
 call-holds r t e p = flag-not-false r p ∙ e
 
-pub ruleset steps = (passed, answers, and-next, and-fails, or-next, or-holds, above, not-above, at-least, not-at-least, equal, unequal, call-not-true, call-not-false, not-held, not-failed, flag-set, flag-clear, call-true, call-false)
+pub ruleset steps = (
+  passed,
+  answers,
+  and-next,
+  and-fails,
+  or-next,
+  or-holds,
+  above,
+  not-above,
+  at-least,
+  not-at-least,
+  equal,
+  unequal,
+  call-not-true,
+  call-not-false,
+  not-held,
+  not-failed,
+  flag-set,
+  flag-clear,
+  call-true,
+  call-false,
+)
 
 pub ruleset told = (told-above, told-not-above, told-below, told-not-below, told-equal, told-unequal, told-ltb, told-eqb, told-not)
 

@@ -8,6 +8,12 @@ use borrow.Author.Needs.{needs}
 use Rattle.octets.proofs.number.u32_at.Statement.{statement}
 use Rattle.octets.proofs.number.u32_at.Tie as tie
 
+returns-2 : tie.Need-returns-2
+returns-2 c =
+    let a = the tie.Start (search) .args in
+    let low = the tie.After-u16-at (search) .u16-at .ensures in
+    omega (arith, le-add 2 2 (now (a .s)) (a .at .0), low, c .u16-at2 .ensures)
+
 pub u32-at-spec : {M : Type 1} → statement M
 u32-at-spec =
     tie.close
@@ -20,4 +26,4 @@ u32-at-spec =
     (λ c. search needs)
     (λ c. search needs)
     (λ c. search needs)
-    (λ c. let a = the tie.Start (search) .args in omega (arith, le-add 2 2 (now (a .s)) (a .at .0), the tie.After-u16-at (search) .u16-at .ensures, c .u16-at2 .ensures)))
+    returns-2)

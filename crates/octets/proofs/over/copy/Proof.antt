@@ -32,7 +32,8 @@ loop-again : tie.Need-loop-again Inv-loop μ-loop
 loop-again c =
     let s = now (the (tie.Start Inv-loop μ-loop) (search) .args .s) in
     let l = the (tie.At-loop Inv-loop μ-loop) (search) .loop in
-    let w = written-block s (l .i) (l .i) (l .i + 16) (l .i + 16 - l .i) _ (l .inv .2) (omega arith) (omega arith) (omega arith) refl (the (tie.After-copy-16 Inv-loop μ-loop) (search) .copy-16 .ensures) in
+    let block = the (tie.After-copy-16 Inv-loop μ-loop) (search) .copy-16 .ensures in
+    let w = written-block s (l .i) (l .i) (l .i + 16) _ (l .inv .2) (omega arith) (omega arith) (omega arith) block in
     (omega arith, written-length w (omega arith), w)
 
 copy-16-requires-2 : tie.Need-copy-16-requires-2 Inv-loop μ-loop
@@ -47,15 +48,19 @@ same-length-2 c =
     let s = now (the (tie.Start Inv-loop μ-loop) (search) .args .s) in
     let l = the (tie.At-loop Inv-loop μ-loop) (search) .loop in
     let n = the (tie.After-smaller Inv-loop μ-loop) (search) .smaller .result .0 in
-    written-length (written-block s (l .i) (n - 16) n (n - (n - 16)) _ (l .inv .2) (omega arith) (omega arith) (omega arith) refl (the (tie.After-copy-162 Inv-loop μ-loop) (search) .copy-162 .ensures)) (omega arith)
+    let block = the (tie.After-copy-162 Inv-loop μ-loop) (search) .copy-162 .ensures in
+    let w = written-block s (l .i) (n - 16) n _ (l .inv .2) (omega arith) (omega arith) (omega arith) block in
+    written-length w (omega arith)
 
 returns-2 : tie.Need-returns-2 Inv-loop μ-loop
 returns-2 c =
     let a = the (tie.Start Inv-loop μ-loop) (search) .args in
     let l = the (tie.At-loop Inv-loop μ-loop) (search) .loop in
-    let n = the (tie.After-smaller Inv-loop μ-loop) (search) .smaller .result .0 in
-    written-block (now (a .s)) (l .i) (n - 16) n (n - (n - 16)) _ (l .inv .2) (omega arith) (omega arith) (omega arith) refl (the (tie.After-copy-162 Inv-loop μ-loop) (search) .copy-162 .ensures) .bytes
-    ∙ copied-both n (now (a .s)) (now (a .out)) (the (tie.After-smaller Inv-loop μ-loop) (search) .smaller .ensures)
+    let m = the (tie.After-smaller Inv-loop μ-loop) (search) .smaller in
+    let n = m .result .0 in
+    let block = the (tie.After-copy-162 Inv-loop μ-loop) (search) .copy-162 .ensures in
+    let w = written-block (now (a .s)) (l .i) (n - 16) n _ (l .inv .2) (omega arith) (omega arith) (omega arith) block in
+    w .bytes ∙ copied-both n (now (a .s)) (now (a .out)) (m .ensures)
 
 pub copy-spec : {M : Type 1} → statement M
 copy-spec =

@@ -1,10 +1,6 @@
 -- Copied whole into the array, and whole out of it.
-use Prim.Native.Nat.{ℕ}
 use denote.Ref.{now}
-use mathlib.Core.Path.{ap, _∙_}
-use mathlib.Core.List.{List}
 use borrow.Author.Needs.{needs}
-use Rattle.octets.specs.Over.{copied}
 use Rattle.octets.proofs.Laws.Over.{copied-through}
 use Rattle.octets.proofs.Laws.Steps.{the}
 use Rattle.octets.proofs.over.copy_1024.Statement.{statement}
@@ -13,9 +9,9 @@ use Rattle.octets.proofs.over.copy_1024.Tie as tie
 returns : tie.Need-returns
 returns c =
     let a = the tie.Start (search) in
-    the tie.After-copy-bytes2 (search) .copy-bytes2 .ensures
-    ∙ ap (λ (x : List ℕ). copied x (now (a .args .out))) (the tie.After-copy-bytes (search) .copy-bytes .ensures)
-    ∙ copied-through 1024 (now (a .args .s)) (now (a .args .out)) (a .pre .0) (a .pre .1)
+    let into = the tie.After-copy-bytes (search) .copy-bytes .ensures in
+    let from = the tie.After-copy-bytes2 (search) .copy-bytes2 .ensures in
+    copied-through 1024 (now (a .args .s)) (now (a .args .out)) (a .pre .0) (a .pre .1) into from
 
 pub copy-1024-spec : {M : Type 1} → statement M
 copy-1024-spec =

@@ -26,7 +26,8 @@ loop-again : tie.Need-loop-again Inv-loop μ-loop
 loop-again c =
     let s = now (the (tie.Start Inv-loop μ-loop) (search) .args .s) in
     let l = the (tie.At-loop Inv-loop μ-loop) (search) .loop in
-    let w = written-block s (l .i) (l .i) (l .i + 1024) (l .i + 1024 - l .i) _ (l .inv .2) (omega arith) (omega arith) (omega arith) refl (the (tie.After-copy-1024 Inv-loop μ-loop) (search) .copy-1024 .ensures) in
+    let block = the (tie.After-copy-1024 Inv-loop μ-loop) (search) .copy-1024 .ensures in
+    let w = written-block s (l .i) (l .i) (l .i + 1024) _ (l .inv .2) (omega arith) (omega arith) (omega arith) block in
     (omega arith, written-length w (omega arith), w)
 
 same-length : tie.Need-same-length Inv-loop μ-loop
@@ -34,15 +35,19 @@ same-length c =
     let s = now (the (tie.Start Inv-loop μ-loop) (search) .args .s) in
     let l = the (tie.At-loop Inv-loop μ-loop) (search) .loop in
     let n = the (tie.After-smaller Inv-loop μ-loop) (search) .smaller .result .0 in
-    written-length (written-last s (l .i) n _ (l .inv .2) (omega arith) (omega arith) (omega arith) (l .inv .1) (the (tie.After-copy Inv-loop μ-loop) (search) .copy .ensures)) (omega arith)
+    let rest = the (tie.After-copy Inv-loop μ-loop) (search) .copy .ensures in
+    let w = written-last s (l .i) n _ (l .inv .2) (omega arith) (omega arith) (omega arith) (l .inv .1) rest in
+    written-length w (omega arith)
 
 returns : tie.Need-returns Inv-loop μ-loop
 returns c =
     let a = the (tie.Start Inv-loop μ-loop) (search) .args in
     let l = the (tie.At-loop Inv-loop μ-loop) (search) .loop in
     let m = the (tie.After-smaller Inv-loop μ-loop) (search) .smaller in
-    written-last (now (a .s)) (l .i) (m .result .0) _ (l .inv .2) (omega arith) (omega arith) (omega arith) (l .inv .1) (the (tie.After-copy Inv-loop μ-loop) (search) .copy .ensures) .bytes
-    ∙ copied-both (m .result .0) (now (a .s)) (now (a .out)) (m .ensures)
+    let n = m .result .0 in
+    let rest = the (tie.After-copy Inv-loop μ-loop) (search) .copy .ensures in
+    let w = written-last (now (a .s)) (l .i) n _ (l .inv .2) (omega arith) (omega arith) (omega arith) (l .inv .1) rest in
+    w .bytes ∙ copied-both n (now (a .s)) (now (a .out)) (m .ensures)
 
 pub copy-long-spec : {M : Type 1} → statement M
 copy-long-spec =

@@ -19,9 +19,11 @@ use Rattle.octets.proofs.text.has_zero_in.Tie as tie
 returns-2 : tie.Need-returns-2
 returns-2 c =
     let a = the tie.Start (search) .args in
+    let n = a .end .0 in
     let zero = firstZero (units (now (a .s))) in
-    let whole : zero < a .end .0 / 32 * 32 / 2 = ltb-true zero (a .end .0 / 32 * 32 / 2) (sym (the tie.After-has-zero2 (search) .has-zero2 .ensures) ∙ c .if2 .taken) in
-    sym (lt-ltb zero (a .end .0 / 2) (omega arith))
+    let found = sym (the tie.After-has-zero2 (search) .has-zero2 .ensures) ∙ c .if2 .taken in
+    let whole : zero < n / 32 * 32 / 2 = ltb-true zero (n / 32 * 32 / 2) found in
+    sym (lt-ltb zero (n / 2) (omega arith))
 
 -- in the last block
 returns-3 : tie.Need-returns-3
@@ -30,7 +32,8 @@ returns-3 c =
     let n = a .end .0 in
     let us = units (now (a .s)) in
     let i = (n - 32) / 2 in
-    let whole : n / 32 * 32 / 2 ≤ firstZero us = ltb-false (firstZero us) (n / 32 * 32 / 2) (sym (the tie.After-has-zero2 (search) .has-zero2 .ensures) ∙ the tie.Else2 (search) .if2 .left) in
+    let none = sym (the tie.After-has-zero2 (search) .has-zero2 .ensures) ∙ the tie.Else2 (search) .if2 .left in
+    let whole : n / 32 * 32 / 2 ≤ firstZero us = ltb-false (firstZero us) (n / 32 * 32 / 2) none in
     let from : n - 32 ≡ 2 * i = omega arith in
     let last = ap units (rest-drop (now (a .s)) (n - 32) ∙ ap (λ (k : ℕ). drop k (now (a .s))) from) ∙ units-drop (now (a .s)) i in
     let end : i + 16 ≡ n / 2 = omega arith in

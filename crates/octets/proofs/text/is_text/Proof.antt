@@ -54,6 +54,16 @@ module _ (s : List ℕ) (even : length s % 2 ≡ 0) (some : 2 ≤ length s) wher
           let most = firstZero-le (units s) k (omega arith) (last-unit k (omega arith) ∙ last) in
           rw (e, by-first) (sym (eq-eqb (suc zero) (length s / 2) (omega (arith, ltb-false zero k e))))
 
+returns-3 : tie.Need-returns-3
+returns-3 c =
+    let last = the tie.After-u16-at (search) .u16-at .ensures in
+    not-zero (now (the tie.Start (search) .args .s)) (omega arith) (omega arith) (λ e. c .if3 .taken (last ∙ e))
+
+returns-4 : tie.Need-returns-4
+returns-4 c =
+    let last = sym (the tie.After-u16-at (search) .u16-at .ensures) ∙ the tie.Else3 (search) .if3 .left in
+    rw (c .has-zero-in .ensures) (none-before (now (the tie.Start (search) .args .s)) (omega arith) (omega arith) last)
+
 pub is-text-spec : {M : Type 1} → statement M
 unfolding isText
 is-text-spec =
@@ -62,6 +72,6 @@ is-text-spec =
     (λ c. too-few (now (the tie.Start (search) .args .s)) (omega arith))
     (λ c. rw (ne-eqb (length (now (the tie.Start (search) .args .s)) % 2) 0 (c .if2 .taken)))
     (λ c κs. search needs)
-    (λ c. not-zero (now (the tie.Start (search) .args .s)) (omega arith) (omega arith) (λ e. c .if3 .taken (the tie.After-u16-at (search) .u16-at .ensures ∙ e)))
+    returns-3
     (λ c κs. search needs)
-    (λ c. rw (c .has-zero-in .ensures) (none-before (now (the tie.Start (search) .args .s)) (omega arith) (omega arith) (sym (the tie.After-u16-at (search) .u16-at .ensures) ∙ the tie.Else3 (search) .if3 .left))))
+    returns-4)

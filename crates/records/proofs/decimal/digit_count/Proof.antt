@@ -1,5 +1,5 @@
--- `records::decimal::digit_count` meets its contract. The loop's invariant: the digits counted and those of `rest` are one more than the number's.
--- The measure is `rest`. Assumes nothing.
+-- The loop's invariant: the digits counted and those of `rest` are one more than the number's.
+-- The measure is `rest`.
 use Prim.Native.Nat.{_+_}
 use mathlib.Core.Path.{_≡_, ap}
 use native.Mathlib.Omega.{arith}

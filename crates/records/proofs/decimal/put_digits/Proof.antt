@@ -1,5 +1,5 @@
--- `records::decimal::put_digits` meets its contract. The loop's invariant: the digits behind the first `left` are put, and those are the digits of `rest`.
--- The measure is `rest`. Assumes nothing.
+-- The loop's invariant: the digits behind the first `left` are put, and those are the digits of `rest`.
+-- The measure is `rest`.
 use Prim.Native.Nat.{_+_}
 use denote.Ref.{now}
 use mathlib.Core.Path.{_∙_}

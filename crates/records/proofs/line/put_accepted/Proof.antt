@@ -1,4 +1,4 @@
--- `records::line::put_accepted` meets its contract: each column is put where the one before it ends. Assumes nothing.
+-- Each column is put where the one before it ends.
 use mathlib.Core.List.{[], _∷_, _++_, append-assoc}
 use native.Mathlib.Omega.{arith}
 use Rattle.records.specs.Decimal.{decimal}

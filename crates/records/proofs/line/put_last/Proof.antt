@@ -1,4 +1,4 @@
--- `records::line::put_last` meets its contract: the number is put where the word ends. Assumes nothing.
+-- The number is put where the word ends.
 use denote.Ref.{now}
 use mathlib.Core.List.{[], _∷_, _++_}
 use native.Mathlib.Omega.{arith}

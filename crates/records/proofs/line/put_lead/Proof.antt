@@ -1,4 +1,4 @@
--- `records::line::put_lead` meets its contract: the answer is put behind the number and its space. Assumes nothing.
+-- The answer is put behind the number and its space.
 use denote.Ref.{now}
 use mathlib.Core.List.{[], _∷_, _++_, append-assoc}
 use native.Mathlib.Omega.{arith}

@@ -1,4 +1,4 @@
--- `records::line::put_row` meets its contract: the row decides which line it is. Assumes nothing.
+-- The row decides which line it is.
 use native.Mathlib.Omega.{arith}
 use Rattle.records.specs.Line.{endLine, headerLine, line, rowBytes, stopLine}
 use borrow.Author.Needs.{needs}

@@ -22,7 +22,8 @@ use Rattle.requests.specs.declared.request.Request.{Request}
 use Rattle.requests.specs.declared.request.Number.{Number}
 use Rattle.requests.specs.declared.request.Number.the-variants.{Absent, Given}
 
--- "An absent value gets: priority 3, and 0 for trace, delivery, auditing, class, acknowledge, tag, privacy, hash, encryption algorithm, body type, provider type"
+-- "An absent value gets: priority 3, and 0 for trace, delivery, auditing, class, acknowledge, tag, privacy, hash, encryption algorithm,
+-- body type, provider type"
 abbrev pub priority : Request → ℕ
 priority v = valueOr 3 (v .priority)
 

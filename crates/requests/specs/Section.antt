@@ -12,7 +12,8 @@ use Rattle.rules.specs.Security.{securityLength}
 use Rattle.rules.specs.declared.properties.PropertiesFields.{PropertiesFields}
 use Rattle.rules.specs.declared.security.SecurityFields.{SecurityFields}
 use Rattle.requests.specs.Request.{SendRequest}
-use Rattle.requests.specs.Defaults.{acknowledge, allocation, bodyOf, bodyType, class, encryptionAlgorithm, hash, privacy, providerType, senderValues, signatureOf, titleOf}
+use Rattle.requests.specs.Defaults.{acknowledge, allocation, bodyType, class, encryptionAlgorithm, hash, privacy, providerType}
+use Rattle.requests.specs.Defaults.{bodyOf, senderValues, signatureOf, titleOf}
 use Rattle.requests.specs.declared.properties.SenderValues.{SenderValues}
 use Rattle.requests.specs.declared.request.Request.{Request}
 

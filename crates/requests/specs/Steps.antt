@@ -10,7 +10,8 @@ use Rattle.rules.specs.Security.{identityHead, identitySize}
 use Rattle.rules.specs.declared.refusal.Checked.{Checked}
 use Rattle.rules.specs.declared.refusal.Checked.the-variants.{Passed, Refused}
 use Rattle.rules.specs.declared.security.SecurityFields.{SecurityFields}
-use Rattle.requests.specs.Defaults.{acknowledge, allocation, auditing, bodyOf, class, count, deliveryGiven, kind, priority, privacy, properties, signatureOf, trace}
+use Rattle.requests.specs.Defaults.{acknowledge, allocation, auditing, class, count, deliveryGiven, kind, priority, privacy, trace}
+use Rattle.requests.specs.Defaults.{bodyOf, properties, signatureOf}
 use Rattle.requests.specs.Request.{SendRequest, isGiven}
 use Rattle.requests.specs.Section.{sectionLength, signed}
 use Rattle.requests.specs.declared.properties.Defaulted.{Defaulted}

@@ -59,7 +59,8 @@ carried m = sectionBits 8 m
 abbrev pub bit : ℕ → ℕ → ℕ
 bit j b = b / 2 ^ j % 2
 
--- "An input agrees with an accepted one in every judged bit when it reaches to the end of that one's section and holds the same bits wherever that one's are judged": t agrees with s, whose summary is m
+-- "An input agrees with an accepted one in every judged bit when it reaches to the end of that one's section and holds the same bits
+-- wherever that one's are judged": t agrees with s, whose summary is m
 pub record Agrees (m : Summary) (s t : List ℕ) : Type 0 where
   pub reaches : m .parts .«section_length» .0 ≤ length t
   pub bits : (i j : ℕ) → j < getD (judged m) i 0 → bit j (getD t i 0) ≡ bit j (getD s i 0)

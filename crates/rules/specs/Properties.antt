@@ -14,7 +14,9 @@ use Rattle.rules.specs.Security.{part}
 use Rattle.rules.specs.declared.properties.PropertiesFields.{PropertiesFields}
 use Rattle.rules.specs.declared.properties.PropertiesParts.{PropertiesParts}
 
--- "56 fixed bytes: Flags 0 (1: PA, PR, NA, NR, four X bits), LabelLength 1 (1), MessageClass 2 (2), CorrelationID 4 (20), BodyType 24, ApplicationTag 28, MessageSize 32, AllocationBodySize 36, PrivacyLevel 40, HashAlgorithm 44, EncryptionAlgorithm 48, ExtensionSize 52 (4 each)"
+-- "56 fixed bytes: Flags 0 (1: PA, PR, NA, NR, four X bits), LabelLength 1 (1), MessageClass 2 (2), CorrelationID 4 (20), BodyType 24,
+-- ApplicationTag 28, MessageSize 32, AllocationBodySize 36, PrivacyLevel 40, HashAlgorithm 44, EncryptionAlgorithm 48, ExtensionSize 52
+-- (4 each)"
 unfoldable pub propertiesFields : List ℕ → PropertiesFields
 propertiesFields h =
     record {

@@ -121,7 +121,9 @@ writing g out = steps-numbered (writeRefusal g) _ (room-numbered (ltb (length ou
 
 imageWriting : (f : QueueFormat) (fixed text out : List ℕ) → Numbered (writeImage f fixed text out)
 unfolding writeImage writerAnswer
-imageWriting f fixed text out = steps-numbered (refusal (writeSteps f fixed text) 0) _ (room-numbered (ltb (length out) (length (imageBytes f (fixed ++ text)))) _)
+imageWriting f fixed text out =
+    let short = ltb (length out) (length (imageBytes f (fixed ++ text))) in
+    steps-numbered (refusal (writeSteps f fixed text) 0) _ (room-numbered short _)
 
 -- requests: each step has a number
 numbers : List (Bool × ℕ) → Bool

@@ -46,7 +46,8 @@ pub extern "C" fn ugb_read(s: &[u8], security_first: bool) -> UgbReading
 
 #[no_mangle]
 pub extern "C" fn ugb_same_summary(a: &[u8], b: &[u8], security_first: bool) -> bool
-    ensures { λ r. ⌜ (r ≡ true → SameSummary «security_first» (now (a .entry)) (now (b .entry))) × (SameSummary «security_first» (now (a .entry)) (now (b .entry)) → r ≡ true) ⌝ }
+    ensures { λ r. ⌜ (r ≡ true → SameSummary «security_first» (now (a .entry)) (now (b .entry)))
+        × (SameSummary «security_first» (now (a .entry)) (now (b .entry)) → r ≡ true) ⌝ }
 {
     same_summary(a, b, security_first)
 }

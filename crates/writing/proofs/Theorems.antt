@@ -18,7 +18,7 @@ use Rattle.rules.specs.declared.section.Reading.the-variants.{Accepted}
 use Rattle.rules.specs.declared.section.Section.{Section}
 use Rattle.writing.specs.Given.{Given}
 use Rattle.writing.specs.Theorems.{WellFormed, Writing, WrittenAgain, WrittenOutput, givenOf, hidden}
-use Rattle.writing.specs.Writing.{layoutLength, sectionBytes, writeAnswer, writeBytes, writeRefusal}
+use Rattle.writing.specs.Writing.{sectionBytes, writeAnswer, writeBytes, writeRefusal}
 use Rattle.writing.proofs.Laws.Again.{Way, accepted, accepted-again}
 use Rattle.writing.proofs.Laws.Carried.{properties-carried, security-carried}
 use Rattle.writing.proofs.Laws.Hidden.{hidden-identity, hidden-properties, hidden-security, properties-hidden, security-hidden}

@@ -106,7 +106,9 @@ module _ (s : List ℕ) (r : Readable s) where
       let n = fixedSize (formatOf s .kind) in
       let v : List ℕ = drop 4 s in
       let size = length-take-le n v (omega (arith, readable-fits s r, length-drop 4 s)) in
-      rw (fixed-again, text-again) (first-next (formatSteps (formatOf s)) _ (r .format) ∙ rw (eq-eqb (length (take n v)) n size, take-append-drop n v) (r .value))
+      let whole = eq-eqb (length (take n v)) n size in
+      rw (fixed-again, text-again)
+      (first-next (formatSteps (formatOf s)) _ (r .format) ∙ rw (whole, take-append-drop n v) (r .value))
 
   bytes-again : imageBytes (formatOf s) (partOf s (imageOf s .fixed) ++ partOf s (imageOf s .text)) ≡ reservedZero s
   bytes-again = rw (fixed-again, text-again, take-append-drop) (image-again s (r .long))
@@ -119,7 +121,8 @@ read-writes s i out e h =
     let fixed : List ℕ = partOf s (imageOf s .fixed) in
     let text : List ℕ = partOf s (imageOf s .text) in
     let same = bytes-again s (a .0) in
-    let size : 4 + length fixed + length text ≡ length s = sym (length-image f fixed text) ∙ ap length same ∙ length-reservedZero s (a .0 .long) in
+    let size : 4 + length fixed + length text ≡ length s =
+    sym (length-image f fixed text) ∙ ap length same ∙ length-reservedZero s (a .0 .long) in
     let w = has-room f fixed text out (over (imageBytes f (fixed ++ text)) out) (steps-again s (a .0)) (omega arith) refl in
     subst (λ (j : Image). WritesBack s j out) (a .1)
     (record {

@@ -17,7 +17,8 @@ use Rattle.rules.proofs.Laws.Listed.{listed-out}
 use Rattle.requests.specs.Defaults.{acknowledge, allocation, auditing, bodyOf, class, deliveryGiven, kind, priority, privacy, signatureOf, trace}
 use Rattle.requests.specs.Request.{SendRequest}
 use Rattle.requests.specs.Section.{packetPrivacy, sectionLength}
-use Rattle.requests.specs.Steps.{allocationFails, firstFailure, identityFails, identityFields, outOfRange, providerFails, requestSteps, splitFails, steps, tooLarge}
+use Rattle.requests.specs.Steps.{allocationFails, identityFails, identityFields, outOfRange, providerFails, splitFails, tooLarge}
+use Rattle.requests.specs.Steps.{firstFailure, requestSteps, steps}
 
 -- a refusal is no passing
 refused≢ : {r : Refusal} → ¬ (Refused r ≡ Passed)

@@ -9,12 +9,13 @@ use borrow.Author.Tests.{ltb-false, le-ltb, not-false, eqb-true, eqb-false, eq-e
 use lib.ListN.{length, drop}
 use lib.Dec.{eqb, ltb, leb}
 use Rattle.rules.specs.Listed.{listed, classes}
-use Rattle.rules.specs.Properties.{propertiesFields, propertiesLength, propertiesParts, propertiesSteps, labelContents, labelText, readProperties}
+use Rattle.rules.specs.Properties.{labelContents, labelText, propertiesFields, propertiesLength, propertiesParts}
+use Rattle.rules.specs.Properties.{propertiesSteps, readProperties}
 use Rattle.rules.specs.Reading.{fieldsAt, headerAt, judge, propertiesNumber, securityHeader, securityNumber, startAt, summarize, summaryAt}
 use Rattle.rules.specs.Refusal.{firstOf, limit, refusal}
-use Rattle.rules.specs.Security.{ST, identityHead, providerText, readSecurity, securityFields, securityLength, securityParts, securitySteps, securityContents, identitySize, providerSize, allEmpty, AU, AS, DE, DP}
+use Rattle.rules.specs.Security.{ST, AU, AS, DE, DP, allEmpty, identityHead, identitySize, providerSize, providerText}
+use Rattle.rules.specs.Security.{readSecurity, securityContents, securityFields, securityLength, securityParts, securitySteps}
 use Rattle.rules.specs.Summary.{partOf, noSecurity, summaryOf, labelOf, propertiesAt}
-use Rattle.rules.specs.declared.refusal.Refusal.{Refusal}
 use Rattle.rules.specs.declared.properties.PropertiesFields.{PropertiesFields}
 use Rattle.rules.specs.declared.properties.PropertiesParts.{PropertiesParts}
 use Rattle.rules.specs.declared.section.Summarized.the-variants.{Accepted, Refused}

@@ -48,7 +48,10 @@ pub properties-reads : (kept : ℕ → List ℕ → List ℕ) (x : FixedProperti
     → x .correlationId ≡ kept 20 (drop 4 s) → x .applicationTag ≡ kept 4 (drop 28 s) → Reads kept propertiesRow x s 0
 unfolding propertiesRow propertiesFields Reads FieldReads width
 properties-reads kept x s e c t =
-    subst (λ (f : PropertiesFields). Reads kept propertiesRow (record { fields = f; correlationId = x .correlationId; applicationTag = x .applicationTag }) s 0) (sym e)
+    let id = x .correlationId in
+    let tag = x .applicationTag in
+    subst (λ (f : PropertiesFields). Reads kept propertiesRow (record { fields = f; correlationId = id; applicationTag = tag }) s 0)
+    (sym e)
     (refl, (refl, (refl, (c, (refl, (t, (refl, (refl, (refl, (refl, (refl, (refl, tt))))))))))))
 
 pub propertiesNamed : Named propertiesRow (λ x. x .fields) blankProperties propertiesFields

@@ -4,6 +4,13 @@ use Rattle.octets.proofs.Laws.Steps.{the}
 use Rattle.sender.proofs.ugb_send_positional.Statement.{statement}
 use Rattle.sender.proofs.ugb_send_positional.Tie as tie
 
+returns : tie.Need-returns
+returns c =
+    let w = the tie.After-send (search) .send .ensures in
+    let first = the tie.After-security-first (search) .security-first .ensures in
+    let request = the tie.After-request-of (search) .request-of .ensures in
+    simp (← request, ← first, ← w .0) (c .sent-answer .ensures, w .1)
+
 pub ugb-send-positional-spec : {M : Type 1} → statement M
 ugb-send-positional-spec =
     tie.close
@@ -13,4 +20,4 @@ ugb-send-positional-spec =
     (λ c κs. search needs)
     (λ c κs. search needs)
     (λ c. search needs)
-    (λ c. let w = the tie.After-send (search) .send in simp (← the tie.After-request-of (search) .request-of .ensures, ← the tie.After-security-first (search) .security-first .ensures, ← w .ensures .0) (c .sent-answer .ensures, w .ensures .1)))
+    returns)

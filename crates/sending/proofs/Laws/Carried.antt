@@ -1,5 +1,5 @@
 -- What is read from the section of a legal request.
-use Prim.Native.Nat.{ℕ, _+_, _<_}
+use Prim.Native.Nat.{ℕ, _<_}
 use mathlib.Core.Path.{_≡_, refl, sym, ap, subst, _∙_}
 use mathlib.Core.Bool.{Bool, true, false, true≢false}
 use mathlib.Core.List.{List, [], _∷_, _++_}
@@ -13,7 +13,7 @@ use Rattle.rules.specs.Properties.{propertiesParts}
 use Rattle.rules.specs.Reading.{read, securityHeader, summarize}
 use Rattle.rules.specs.Refusal.{bytes}
 use Rattle.rules.specs.Security.{DE, DP, EB, ST, securityLength}
-use Rattle.rules.specs.Summary.{labelOf, noSecurity, partOf, propertiesAt, providerNameOf}
+use Rattle.rules.specs.Summary.{labelOf, noSecurity, partOf, providerNameOf}
 use Rattle.rules.specs.declared.properties.PropertiesFields.{PropertiesFields}
 use Rattle.rules.specs.declared.properties.PropertiesParts.{PropertiesParts}
 use Rattle.rules.specs.declared.section.Section.{Section}

@@ -17,7 +17,8 @@ use Rattle.requests.specs.Section.{first, propertiesAt, propertiesFieldsOf, sec
 use Rattle.requests.specs.Steps.{tooLarge as requestTooLarge}
 use Rattle.requests.specs.declared.request.Correlation.{Correlation}
 use Rattle.requests.specs.declared.request.Correlation.the-variants.{Absent, Given}
-use Rattle.requests.proofs.Laws.Fits.{identityHead-pass, labelText-pass, propertiesSteps-pass, providerText-pass, sectionLength-pass, securityLength-pass, securitySteps-pass}
+use Rattle.requests.proofs.Laws.Fits.{identityHead-pass, providerText-pass, securityLength-pass, securitySteps-pass}
+use Rattle.requests.proofs.Laws.Fits.{labelText-pass, propertiesSteps-pass, sectionLength-pass}
 use Rattle.requests.proofs.Laws.Flags.{securityFlags-bits}
 use Rattle.requests.proofs.Laws.Legal.{RequestPassed, acknowledge-small, class-small, identity-fits, packetPrivacy-small}
 use Rattle.requests.proofs.Laws.Title.{label-fits, title-cut}

@@ -11,7 +11,6 @@ use Rattle.octets.specs.Over.{over}
 use Rattle.octets.specs.Text.{unitBytes}
 use Rattle.octets.proofs.Laws.UnitBytes.{length-unitBytes, unitBytes-append}
 use Rattle.requests.specs.Section.{labelWith}
-use Rattle.requests.proofs.Laws.Text.{length-nulled}
 use Rattle.writing.proofs.Laws.Bytes.{four-bytes, two-bytes}
 use Rattle.octets.proofs.Laws.Over.{over-more, over-start}
 

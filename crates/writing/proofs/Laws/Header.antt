@@ -5,7 +5,10 @@ use mathlib.Core.List.{List, [], _++_, append-assoc, append-nil}
 use native.Mathlib.Omega.{arith}
 use lib.ListN.{length, replicate, length-append}
 use Rattle.octets.specs.Number.{toLe}
+use Rattle.octets.specs.Over.{overAt}
 use Rattle.octets.specs.Padding.{padding}
+use Rattle.octets.proofs.Laws.Number.{length-toLe}
+use Rattle.octets.proofs.Laws.Over.{Written, written-next}
 use Rattle.rules.specs.declared.properties.PropertiesFields.{PropertiesFields}
 use Rattle.rules.specs.declared.security.SecurityFields.{SecurityFields}
 use Rattle.rules.specs.Properties.{propertiesRow}
@@ -21,6 +24,11 @@ five a b c d e = simp append-assoc
 pub length-securityRow : (f : SecurityFields) → length (rowBytes securityRow f) ≡ 16
 unfolding rowBytes securityRow fieldBytes toLe
 length-securityRow f = refl
+
+-- the next number, stored behind what is written
+pub number-next : {p out now later : List ℕ} {end : ℕ} (width n : ℕ) → Written p out end now → later ≡ overAt end (toLe width n) now
+    → Written (p ++ toLe width n) out (end + width) later
+number-next {end = end} width n w e = written-next end width (toLe width n) w refl (length-toLe width n) e
 
 -- the fields stored one behind the other are the row
 pub security-stored : (f : SecurityFields)

@@ -1,4 +1,5 @@
--- What a section that no step refuses needs to be written: it is as long as its layout, each number fits its bytes, and where the output is as long there is room.
+-- What a section that no step refuses needs to be written: it is as long as its layout, each number fits its bytes, and where the output
+-- is as long there is room.
 use Prim.Native.Nat.{ℕ, _+_, _≤_}
 use mathlib.Core.Path.{_≡_, refl, subst}
 use mathlib.Core.Bool.{Bool, _||_}

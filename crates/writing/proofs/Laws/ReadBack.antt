@@ -20,7 +20,8 @@ use Rattle.rules.proofs.Laws.Row.{FieldFits, Fits}
 use Rattle.writing.specs.Given.{Given, propertiesFrom, propertiesGiven, securityFrom, securityGiven}
 use Rattle.writing.specs.Theorems.{ReadsBack, WellFormed}
 use Rattle.writing.specs.Writing.{propertiesBytes, sectionBytes, securityBytes, startOf, writeRefusal}
-use Rattle.writing.proofs.Laws.Fields.{PropertiesHolds, SecurityHolds, correlation-written, propertiesFields-written, securityFields-written, tag-written}
+use Rattle.writing.proofs.Laws.Fields.{PropertiesHolds, SecurityHolds}
+use Rattle.writing.proofs.Laws.Fields.{correlation-written, propertiesFields-written, securityFields-written, tag-written}
 use Rattle.writing.proofs.Laws.Laid.{properties-sized, security-sized}
 use Rattle.writing.proofs.Laws.Parts.{PropertiesPartsAt, propertiesParts-written, securityParts-written}
 use Rattle.writing.proofs.Laws.Placed.{HeaderPlaced, PropertiesPlaced, SectionPlaced, SecurityPlaced, section-placed}

@@ -3,7 +3,7 @@ use Prim.Native.Nat.{ℕ}
 use mathlib.Core.Path.{_≡_, _∙_}
 use borrow.Author.Needs.{needs}
 use lib.ListN.{drop}
-use Rattle.octets.proofs.Laws.Steps.{answers, call-false, call-true, passed, the}
+use Rattle.octets.proofs.Laws.Steps.{answers, call-false, call-true, passed}
 use Rattle.rules.specs.declared.refusal.Checked.{Checked}
 use Rattle.rules.specs.declared.refusal.Checked.the-variants.{Passed}
 use Rattle.requests.specs.Request.{SendRequest, heldRequest}

@@ -54,7 +54,8 @@ returns-3 : tie.Need-returns-3
 unfolding number start
 returns-3 c =
     let a = the tie.Start (search) .args in
-    has-room (a .format) (now (a .fixed)) (now (a .text)) (now (a .out)) _ (passed (search)) (omega arith) (the tie.After-put-image (search) .put-image .ensures)
+    let image = the tie.After-put-image (search) .put-image .ensures in
+    has-room (a .format) (now (a .fixed)) (now (a .text)) (now (a .out)) _ (passed (search)) (omega arith) image
 
 pub write-image-spec : {M : Type 1} → statement M
 write-image-spec =

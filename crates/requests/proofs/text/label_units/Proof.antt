@@ -10,11 +10,21 @@ use Rattle.requests.proofs.Laws.Title.{title-small}
 use Rattle.requests.proofs.text.label_units.Statement.{statement}
 use Rattle.requests.proofs.text.label_units.Tie as tie
 
+returns : tie.Need-returns
+returns c =
+    let kept = the tie.After-kept-units (search) .kept-units .ensures in
+    omega (arith, label-none (titleOf (now (the tie.Start (search) .args .title))) (sym kept ∙ c .if1 .taken))
+
+returns-2 : tie.Need-returns-2
+returns-2 c =
+    let kept = the tie.After-kept-units (search) .kept-units .ensures in
+    omega (arith, label-some (titleOf (now (the tie.Start (search) .args .title))) (λ z. the tie.Else1 (search) .if1 .left (kept ∙ z)))
+
 pub label-units-spec : {M : Type 1} → statement M
 label-units-spec =
     tie.close
     (tie.spec
     (λ c κs. search needs)
-    (λ c. let us = titleOf (now (the tie.Start (search) .args .title)) in omega (arith, label-none us (sym (the tie.After-kept-units (search) .kept-units .ensures) ∙ c .if1 .taken)))
+    returns
     (λ c. omega (arith, title-small (now (the tie.Start (search) .args .title))))
-    (λ c. let us = titleOf (now (the tie.Start (search) .args .title)) in let e = the tie.After-kept-units (search) .kept-units .ensures in omega (arith, label-some us (λ z. c .before .if1 .left (e ∙ z)))))
+    returns-2)

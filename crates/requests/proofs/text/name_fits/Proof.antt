@@ -1,6 +1,6 @@
 -- The tests that led to each answer pick its case of `nameFits`.
 use borrow.Author.Needs.{needs}
-use Rattle.octets.proofs.Laws.Steps.{steps, told}
+use Rattle.octets.proofs.Laws.Steps.{steps}
 use Rattle.requests.specs.Steps.{nameFits}
 use Rattle.requests.proofs.text.name_fits.Statement.{statement}
 use Rattle.requests.proofs.text.name_fits.Tie as tie

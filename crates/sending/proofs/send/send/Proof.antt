@@ -1,7 +1,6 @@
 -- Refused as its request is; else what is given to the section writer is what the request gives it, and that can only refuse for the output.
 use Prim.Native.Nat.{ℕ, _≤_, _<_}
 use denote.Ref.{now}
-use mathlib.Core.List.{List}
 use mathlib.Core.Path.{refl, sym, ap, _∙_}
 use native.Mathlib.Omega.{arith}
 use borrow.Author.Needs.{needs}

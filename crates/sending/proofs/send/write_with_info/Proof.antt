@@ -13,11 +13,33 @@ use Rattle.sending.proofs.Laws.Send.{held}
 use Rattle.sending.proofs.send.write_with_info.Statement.{statement}
 use Rattle.sending.proofs.send.write_with_info.Tie as tie
 
-short : (c : tie.Then1) → let a = c .before .before .before .before .before .before .before .before .before .before .before .args in
+-- the shorter array has room
+short : (c : tie.Then1) → let a = the tie.Start (search) .args in
     length (providerInfo (a .request) (now (a .signature)) (now (a .provider-name))) ≤ 128
 short c =
     let a = the tie.Start (search) .args in
     omega (arith, c .if1 .taken, info-most (a .request) (now (a .signature)) (now (a .provider-name)))
+
+-- the first bytes of either array are as many as were written
+slice-aggregate-write-section : tie.Need-slice-aggregate-write-section
+slice-aggregate-write-section c =
+    let w = the tie.After-write-provider-info (search) .write-provider-info in
+    sym (length-take-le (w .result .0) (w .last .1 .1 .1 .0) (omega (arith, w .ensures .0, short (search))))
+
+slice-aggregate-write-section-2 : tie.Need-slice-aggregate-write-section-2
+slice-aggregate-write-section-2 c =
+    let w = the tie.After-write-provider-info2 (search) .write-provider-info2 in
+    sym (length-take-le (w .result .0) (w .last .1 .1 .1 .0) (omega (arith, w .ensures .0, the tie.Start (search) .pre)))
+
+returns : tie.Need-returns
+returns c =
+    let info = the tie.After-write-provider-info (search) .write-provider-info .ensures in
+    rw (← held _ info) (the tie.After-write-section (search) .write-section .ensures)
+
+returns-2 : tie.Need-returns-2
+returns-2 c =
+    let info = the tie.After-write-provider-info2 (search) .write-provider-info2 .ensures in
+    rw (← held _ info) (the tie.After-write-section2 (search) .write-section2 .ensures)
 
 pub write-with-info-spec : {M : Type 1} → statement M
 write-with-info-spec =
@@ -26,14 +48,14 @@ write-with-info-spec =
     (λ c. search needs)
     (λ c κs. (the tie.Start (search) .pre, short (search)))
     (λ c. omega (arith, the tie.After-write-provider-info (search) .write-provider-info .ensures .0, short (search)))
-    (λ c. let w = the tie.After-write-provider-info (search) .write-provider-info in sym (length-take-le (w .result .0) (w .last .1 .1 .1 .0) (omega (arith, w .ensures .0, short (search)))))
+    slice-aggregate-write-section
     (λ c κs. search needs)
     (λ c. search needs)
-    (λ c. let w = the tie.After-write-provider-info (search) .write-provider-info in rw (← held _ (w .ensures)) (the tie.After-write-section (search) .write-section .ensures))
+    returns
     (λ c. search needs)
     (λ c κs. search needs)
     (λ c. search needs)
-    (λ c. let w = the tie.After-write-provider-info2 (search) .write-provider-info2 in sym (length-take-le (w .result .0) (w .last .1 .1 .1 .0) (omega (arith, w .ensures .0, the tie.Start (search) .pre))))
+    slice-aggregate-write-section-2
     (λ c κs. search needs)
     (λ c. search needs)
-    (λ c. let w = the tie.After-write-provider-info2 (search) .write-provider-info2 in rw (← held _ (w .ensures)) (the tie.After-write-section2 (search) .write-section2 .ensures)))
+    returns-2)

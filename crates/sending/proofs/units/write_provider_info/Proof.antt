@@ -15,7 +15,7 @@ use Rattle.octets.proofs.Laws.UnitBytes.{length-unitBytes}
 use Rattle.requests.specs.Defaults.{providerType}
 use Rattle.requests.specs.Section.{providerInfo}
 use Rattle.requests.proofs.Laws.Provider.{info-default, info-other, info-unsigned, typeAndName}
-use Rattle.requests.proofs.Laws.Text.{length-info, length-nulled}
+use Rattle.requests.proofs.Laws.Text.{length-info}
 use Rattle.sending.proofs.Laws.Units.{halves-number}
 use Rattle.sending.proofs.units.write_provider_info.Statement.{statement}
 use Rattle.sending.proofs.units.write_provider_info.Tie as tie
@@ -39,6 +39,18 @@ room c =
     ap length info ∙ omega (arith, length-info (providerType (a .request)) name) in
     record { info = info; size = size; name = omega (arith, s .pre .0); room = omega (arith, s .pre .1) }
 
+returns : tie.Need-returns
+returns c =
+    let a = the tie.Start (search) .args in
+    let none = info-unsigned (a .request) (now (a .signature)) (now (a .provider-name)) (c .if1 .taken) in
+    rw none (refl, written-none (now (a .out)) .bytes)
+
+returns-2 : tie.Need-returns-2
+returns-2 c =
+    let a = the tie.Start (search) .args in
+    let none = info-default (a .request) (now (a .signature)) (now (a .provider-name)) (c .if2 .taken) in
+    rw none (refl, written-none (now (a .out)) .bytes)
+
 returns-3 : tie.Need-returns-3
 returns-3 c =
     let a = the tie.Start (search) .args in
@@ -48,7 +60,9 @@ returns-3 c =
     let halves = n .result % 65536 ∷ n .result / 65536 ∷ [] in
     let w = the tie.After-write-text (search) .write-text in
     let first = written-first (the tie.After-write-units (search) .write-units .ensures) in
-    let rest = written-rest 4 (length text) text (w .last .1 .0) first (sym (length-unitBytes halves)) refl (omega (arith, r .room)) (w .ensures .1) in
+    let rest =
+    written-rest 4 (length text) text (w .last .1 .0) first (sym (length-unitBytes halves)) refl (omega (arith, r .room))
+    (w .ensures .1) in
     let whole = ap (λ (bs : List ℕ). bs ++ text) (halves-number (n .result))
     ∙ ap (λ (k : ℕ). toLe 4 k ++ text) (n .ensures) ∙ sym (r .info) in
     (omega (arith, w .ensures .0, r .size), rest .bytes ∙ ap (λ (bs : List ℕ). over bs (now (a .out))) whole)
@@ -57,8 +71,8 @@ pub write-provider-info-spec : {M : Type 1} → statement M
 write-provider-info-spec =
     tie.close
     (tie.spec
-    (λ c. let a = the tie.Start (search) .args in rw (info-unsigned (a .request) (now (a .signature)) (now (a .provider-name)) (c .if1 .taken)) (refl, written-none (now (a .out)) .bytes))
-    (λ c. let a = the tie.Start (search) .args in rw (info-default (a .request) (now (a .signature)) (now (a .provider-name)) (c .if2 .taken)) (refl, written-none (now (a .out)) .bytes))
+    returns
+    returns-2
     (λ c κs. search needs)
     (λ c. search needs)
     (λ c. search needs)

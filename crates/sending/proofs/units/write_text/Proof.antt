@@ -1,6 +1,5 @@
 -- The units, and one more of which both bytes are zero.
 use denote.Ref.{now}
-use mathlib.Core.Path.{_∙_}
 use native.Mathlib.Omega.{arith}
 use borrow.Author.Needs.{needs}
 use lib.ListN.{length-set}

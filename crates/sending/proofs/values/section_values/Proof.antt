@@ -7,8 +7,14 @@ use Rattle.sending.specs.Send.{valuesOf}
 use Rattle.sending.proofs.values.section_values.Statement.{statement}
 use Rattle.sending.proofs.values.section_values.Tie as tie
 
-pub section-values-spec : {M : Type 1} → statement M
+returns : tie.Need-returns
 unfolding valuesOf
+returns c =
+    let flags = the tie.After-security-flags (search) .security-flags .ensures in
+    let sender = the tie.After-sender-values (search) .sender-values .ensures in
+    rw (flags ∙ ap securityFlags sender, c .packet-privacy .ensures)
+
+pub section-values-spec : {M : Type 1} → statement M
 section-values-spec =
     tie.close
     (tie.spec
@@ -17,4 +23,4 @@ section-values-spec =
     (λ c. search needs)
     (λ c. search needs)
     (λ c κs. search needs)
-    (λ c. let flags = the tie.After-security-flags (search) in rw (flags .security-flags .ensures ∙ ap securityFlags (flags .before .sender-values .ensures), c .packet-privacy .ensures)))
+    returns)

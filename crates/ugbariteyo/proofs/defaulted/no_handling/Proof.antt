@@ -4,12 +4,13 @@ use borrow.Author.Needs.{needs}
 use Rattle.ugbariteyo.proofs.defaulted.no_handling.Statement.{statement}
 use Rattle.ugbariteyo.proofs.defaulted.no_handling.Tie as tie
 
-no-number-requires : tie.Need-no-number-requires
-no-number-requires c κs = search needs
-
 returns : tie.Need-returns
 unfolding noHandling
 returns c = simp (c .no-number .ensures)
 
 pub no-handling-spec : {M : Type 1} → statement M
-no-handling-spec = tie.close (tie.spec no-number-requires returns)
+no-handling-spec =
+    tie.close
+    (tie.spec
+    (λ c κs. search needs)
+    returns)

@@ -4,24 +4,13 @@ use borrow.Author.Needs.{needs}
 use Rattle.ugbariteyo.proofs.output.output_answer.Statement.{statement}
 use Rattle.ugbariteyo.proofs.output.output_answer.Tie as tie
 
-enum-known-output : tie.Need-enum-known-output
-enum-known-output c = search needs
-
-enum-known-output-2 : tie.Need-enum-known-output-2
-enum-known-output-2 c = search needs
-
-no-refusal-requires : tie.Need-no-refusal-requires
-no-refusal-requires c κs = search needs
-
-returns : tie.Need-returns
-unfolding outputAnswer
-returns c = simp (c .before .output .given .1)
-
-returns-2 : tie.Need-returns-2
-unfolding outputAnswer
-returns-2 c = simp (c .before .before .output2 .given .1, c .no-refusal .ensures)
-
 pub output-answer-spec : {M : Type 1} → statement M
+unfolding outputAnswer
 output-answer-spec =
     tie.close
-    (tie.spec enum-known-output enum-known-output-2 no-refusal-requires returns returns-2)
+    (tie.spec
+    (λ c. search needs)
+    (λ c. search needs)
+    (λ c κs. search needs)
+    (λ c. simp (c .before .output .given .1))
+    (λ c. simp (c .before .before .output2 .given .1, c .no-refusal .ensures)))

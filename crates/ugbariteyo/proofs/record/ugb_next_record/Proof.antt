@@ -10,10 +10,28 @@ use Rattle.ugbariteyo.proofs.record.ugb_next_record.Tie as tie
 
 found-answer-requires : tie.Need-found-answer-requires
 found-answer-requires c κs =
-    found-fits _ _ (sym (the tie.After-next-record (search) .next-record .ensures) ∙ the tie.After-listed (search) .listed .given .1) .0
+    let next = the tie.After-next-record (search) .next-record .ensures in
+    found-fits _ _ (sym next ∙ the tie.After-listed (search) .listed .given .1) .0
+
+returns : tie.Need-returns
+unfolding recordAnswer
+returns c =
+    let next = the tie.After-next-record (search) .next-record .ensures in
+    answer-judged _ _ (simp (← next, the tie.After-enum-told (search) .enum-told .given .1) (c .nothing-found .ensures))
+
+returns-2 : tie.Need-returns-2
+unfolding recordAnswer
+returns-2 c =
+    let next = the tie.After-next-record (search) .next-record .ensures in
+    answer-judged _ _ (simp (← next, the tie.After-enum-told2 (search) .enum-told2 .given .1) (c .nothing-found2 .ensures))
+
+returns-3 : tie.Need-returns-3
+unfolding recordAnswer
+returns-3 c =
+    let next = the tie.After-next-record (search) .next-record .ensures in
+    answer-judged _ _ (simp (← next, the tie.After-listed (search) .listed .given .1) (c .found-answer .ensures))
 
 pub ugb-next-record-spec : {M : Type 1} → statement M
-unfolding recordAnswer
 ugb-next-record-spec =
     tie.close
     (tie.spec
@@ -24,6 +42,6 @@ ugb-next-record-spec =
     (λ c κs. search needs)
     (λ c. search needs)
     found-answer-requires
-    (λ c. answer-judged _ _ (simp (← the tie.After-next-record (search) .next-record .ensures, the tie.After-enum-told (search) .enum-told .given .1) (c .nothing-found .ensures)))
-    (λ c. answer-judged _ _ (simp (← the tie.After-next-record (search) .next-record .ensures, the tie.After-enum-told2 (search) .enum-told2 .given .1) (c .nothing-found2 .ensures)))
-    (λ c. answer-judged _ _ (simp (← the tie.After-next-record (search) .next-record .ensures, the tie.After-listed (search) .listed .given .1) (c .found-answer .ensures))))
+    returns
+    returns-2
+    returns-3)

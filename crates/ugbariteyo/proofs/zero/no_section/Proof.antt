@@ -4,15 +4,14 @@ use borrow.Author.Needs.{needs}
 use Rattle.ugbariteyo.proofs.zero.no_section.Statement.{statement}
 use Rattle.ugbariteyo.proofs.zero.no_section.Tie as tie
 
-no-summary-requires : tie.Need-no-summary-requires
-no-summary-requires c κs = search needs
-
-no-part-requires : tie.Need-no-part-requires
-no-part-requires c κs = search needs
-
 returns : tie.Need-returns
 unfolding noSection
 returns c = simp (c .before .no-summary .ensures, c .no-part .ensures)
 
 pub no-section-spec : {M : Type 1} → statement M
-no-section-spec = tie.close (tie.spec no-summary-requires no-part-requires returns)
+no-section-spec =
+    tie.close
+    (tie.spec
+    (λ c κs. search needs)
+    (λ c κs. search needs)
+    returns)

@@ -14,19 +14,15 @@ verdicts : (authenticationFails (noSecurity .fields) noProperties ≡ false) × 
 unfolding authenticationFails decryptionFails noSecurity noProperties propertiesFields le listed privacyLevels
 verdicts = (refl, refl)
 
-no-part-requires : tie.Need-no-part-requires
-no-part-requires c κs = search needs
-
-no-security-requires : tie.Need-no-security-requires
-no-security-requires c κs = search needs
-
-no-properties-requires : tie.Need-no-properties-requires
-no-properties-requires c κs = search needs
-
 returns : tie.Need-returns
 unfolding noSummary summaryOf
 returns c = simp (c .before .before .no-part .ensures, c .before .no-security .ensures, c .no-properties .ensures, verdicts .0, verdicts .1)
 
 pub no-summary-spec : {M : Type 1} → statement M
 no-summary-spec =
-    tie.close (tie.spec no-part-requires no-security-requires no-properties-requires returns)
+    tie.close
+    (tie.spec
+    (λ c κs. search needs)
+    (λ c κs. search needs)
+    (λ c κs. search needs)
+    returns)

@@ -38,11 +38,14 @@ returns-2 c =
 even : (c : tie.After-properties-given) → length (now (the tie.Start (search) .args .label)) % 2 ≡ 0
 even c = the tie.Else1 (search) .if1 .left
 
+-- P2 to P4 on the fields that the call was given
+steps-told : (c : tie.After-properties-steps) → c .properties-steps .result ≡ propertiesSteps (fields (the tie.Start (search)))
+steps-told c = c .properties-steps .ensures ∙ ap propertiesSteps (the tie.After-properties-given (search) .properties-given .ensures)
+
 returns-3 : tie.Need-returns-3
 unfolding endNumber firstOf
 returns-3 c =
-    let made = the tie.After-properties-given (search) .properties-given in
-    let n = the tie.After-properties-steps (search) .properties-steps .ensures ∙ ap propertiesSteps (made .ensures) in
+    let n = steps-told (search) in
     search (steps, told) depth 20
 
 -- where the section ends
@@ -59,8 +62,7 @@ returns-4 : tie.Need-returns-4
 unfolding endNumber firstOf
 returns-4 c =
     let start = the tie.Start (search) in
-    let made = the tie.After-properties-given (search) .properties-given in
-    let n = the tie.After-properties-steps (search) .properties-steps .ensures ∙ ap propertiesSteps (made .ensures) in
+    let n = steps-told (search) in
     let units = even (search) in
     let long : limit < start .args .at .0 + propertiesLength (fields start) = omega (arith, end-told (search)) in
     search (steps, told) depth 20
@@ -69,8 +71,7 @@ returns-5 : tie.Need-returns-5
 unfolding endNumber firstOf
 returns-5 c =
     let start = the tie.Start (search) in
-    let made = the tie.After-properties-given (search) .properties-given in
-    let n = the tie.After-properties-steps (search) .properties-steps .ensures ∙ ap propertiesSteps (made .ensures) in
+    let n = steps-told (search) in
     let units = even (search) in
     let small : start .args .at .0 + propertiesLength (fields start) ≤ limit = omega (arith, end-told (search)) in
     search (steps, told) depth 20

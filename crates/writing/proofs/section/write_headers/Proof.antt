@@ -1,5 +1,5 @@
 -- The SecurityHeader is written, where one is, and then the rest.
-use Prim.Native.Nat.{ℕ, _+_}
+use Prim.Native.Nat.{ℕ}
 use denote.Ref.{now}
 use mathlib.Core.Path.{_≡_, refl, sym, ap, subst, _∙_}
 use mathlib.Core.Logic.{⊎-elim}
@@ -30,12 +30,14 @@ section c =
     held (a .values) (a .sender-id) (a .encryption-key) (a .signature) (a .sender-cert) (a .provider-info) (a .label) (a .extension) (a .body)
 
 -- what stands first, by a test that was made
-headed : {first : Bool} {now : List ℕ} (b : Bool) (bs out : List ℕ) → first ≡ b → now ≡ over (cond b bs []) out → now ≡ over (cond first bs []) out
+headed : {first : Bool} {now : List ℕ} (b : Bool) (bs out : List ℕ) → first ≡ b → now ≡ over (cond b bs []) out
+    → now ≡ over (cond first bs []) out
 headed b bs out is e = e ∙ ap (λ (x : Bool). over (cond x bs []) out) (sym is)
 
 -- the SecurityHeader of fields that are those given
 security-written : (g : Given) (f : SecurityFields) (out now : List ℕ) → f ≡ securityGiven g
-    → now ≡ over (rowBytes securityRow f ++ securityPartsBytes (g .senderId) (g .encryptionKey) (g .signature) (g .senderCert) (g .providerInfo)) out
+    → let parts = securityPartsBytes (g .senderId) (g .encryptionKey) (g .signature) (g .senderCert) (g .providerInfo) in
+    now ≡ over (rowBytes securityRow f ++ parts) out
     → now ≡ over (securityBytes g) out
 unfolding securityBytes securityFixed
 security-written g f out now e w = rw (← e) w
@@ -47,7 +49,8 @@ begun c = the tie.Start (search)
 -- past the `if` the SecurityHeader is written, where one is
 joined : (c : tie.Joined1)
     → let start = the tie.Start (search) in
-    Written (cond (start .args .values .«security_first») (securityBytes (section start)) []) (now (start .args .out)) (start .args .start .0) (c .if1 .out)
+    let a = start .args in
+    Written (cond (a .values .«security_first») (securityBytes (section start)) []) (now (a .out)) (a .start .0) (c .if1 .out)
 unfolding over
 joined c =
     let start = the tie.Start (search) in
@@ -85,7 +88,8 @@ write-properties-requires c κs =
 
 -- the MessagePropertiesHeader of fields that are those given
 properties-written : (g : Given) (f : PropertiesFields) (out now : List ℕ) → f ≡ propertiesGiven g
-    → now ≡ over (paddedPart (rowBytes propertiesRow (fixed f (g .values .«correlation_id») (g .values .«application_tag»)) ++ (g .label ++ (g .extension ++ g .body)))) out
+    → let row = rowBytes propertiesRow (fixed f (g .values .«correlation_id») (g .values .«application_tag»)) in
+    now ≡ over (paddedPart (row ++ (g .label ++ (g .extension ++ g .body)))) out
     → now ≡ over (propertiesBytes g) out
 unfolding propertiesBytes propertiesFixed
 properties-written g f out now e w = rw (← e) w

@@ -40,8 +40,9 @@ started c = ap (λ (r : Refusal). r .place .0) (sym (c .pre)) ∙ ap (λ (p : By
 ended : (c : tie.After-section-end) → c .section-end .result .0 ≡ layoutLength (section (the tie.Start (search)))
 ended c =
     let start = the tie.Start (search) in
-    let told = c .section-end .ensures
-    ∙ ap (λ (f : PropertiesFields). min (limit + 1) (start .args .start .0 + propertiesLength f)) (the tie.After-properties-given (search) .properties-given .ensures) in
+    let at = start .args .start .0 in
+    let given = the tie.After-properties-given (search) .properties-given .ensures in
+    let told = c .section-end .ensures ∙ ap (λ (f : PropertiesFields). min (limit + 1) (at + propertiesLength f)) given in
     omega (arith, told, started start, section-placed (section start) .0 (passed start) .properties .small)
 
 returns : tie.Need-returns

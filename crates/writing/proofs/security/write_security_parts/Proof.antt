@@ -1,13 +1,13 @@
 -- Each padded part is written where the one before it ends.
-use Prim.Native.Nat.{ℕ, _+_, _^_, _≤_, _<_}
+use Prim.Native.Nat.{ℕ, _+_, _-_, _^_, _≤_, _<_}
 use denote.Ref.{now}
 use mathlib.Core.Path.{_≡_, sym, ap, _∙_}
-use mathlib.Core.List.{List}
+use mathlib.Core.List.{List, _++_}
 use native.Mathlib.Omega.{arith}
-use lib.ListN.{length}
+use lib.ListN.{length, take, drop}
 use Rattle.octets.specs.Padding.{padded}
 use Rattle.octets.specs.Over.{over}
-use Rattle.octets.proofs.Laws.Over.{written-first, written-rest}
+use Rattle.octets.proofs.Laws.Over.{Written, written-first, written-rest}
 use Rattle.octets.proofs.Laws.Steps.{the}
 use Rattle.writing.specs.Writing.{paddedPart, securityPartsBytes}
 use Rattle.writing.proofs.Laws.Header.{five}
@@ -23,13 +23,20 @@ begun c = the tie.Start (search)
 short : (c : tie.After-write-padded-part) → length (now (the tie.Start (search) .args .out)) < 2 ^ 64
 short c = omega arith
 
+-- the next padded part, written to a lent rest of the output
+part-next : {p out now : List ℕ} {end : ℕ} (at : ℕ) (part later : List ℕ) → Written p out end now → at ≡ end → at ≤ length out
+    → later ≡ over (paddedPart part) (take (length now - at) (drop at now))
+    → Written (p ++ paddedPart part) out (at + padded 4 (length part)) (take at now ++ (later ++ drop (length now - at) (drop at now)))
+part-next at part later w a h e = written-rest at (padded 4 (length part)) (paddedPart part) later w a (length-paddedPart part) h e
+
 -- how far the first four parts reach
 reach : (c : tie.After-write-padded-part4)
     → let c1 = the tie.After-write-padded-part (search) in
     let c2 = the tie.After-write-padded-part2 (search) in
     let c3 = the tie.After-write-padded-part3 (search) in
     let a = begun c2 .args in
-    (c1 .write-padded-part .result .0 + c2 .write-padded-part2 .result .0 + c3 .write-padded-part3 .result .0 + c .write-padded-part4 .result .0)
+    (c1 .write-padded-part .result .0 + c2 .write-padded-part2 .result .0 + c3 .write-padded-part3 .result .0
+    + c .write-padded-part4 .result .0)
     + padded 4 (length (now (a .provider-info)))
     ≤ length (now (a .out))
 reach c =
@@ -65,11 +72,12 @@ returns c =
     let e3 : r3 ≡ padded 4 (length signature) = c3 .ensures .0 in
     let e4 : r4 ≡ padded 4 (length cert) = c4 .ensures .0 in
     let w1 = written-first (c1 .ensures .1) in
-    let w2 = written-rest r1 (padded 4 (length key)) (paddedPart key) (c2 .last .1 .0) w1 (e1 ∙ sym (length-paddedPart identity)) (length-paddedPart key) (omega (arith, h)) (c2 .ensures .1) in
-    let w3 = written-rest (r1 + r2) (padded 4 (length signature)) (paddedPart signature) (c3 .last .1 .0) w2 (omega arith) (length-paddedPart signature) (omega (arith, h)) (c3 .ensures .1) in
-    let w4 = written-rest (r1 + r2 + r3) (padded 4 (length cert)) (paddedPart cert) (c4 .last .1 .0) w3 (omega arith) (length-paddedPart cert) (omega (arith, h)) (c4 .ensures .1) in
-    let w5 = written-rest (r1 + r2 + r3 + r4) (padded 4 (length provider)) (paddedPart provider) (c5 .last .1 .0) w4 (omega arith) (length-paddedPart provider) (omega (arith, h)) (c5 .ensures .1) in
-    w5 .bytes ∙ ap (λ (bs : List ℕ). over bs (now (a .out))) (five (paddedPart identity) (paddedPart key) (paddedPart signature) (paddedPart cert) (paddedPart provider))
+    let w2 = part-next r1 key (c2 .last .1 .0) w1 (e1 ∙ sym (length-paddedPart identity)) (omega (arith, h)) (c2 .ensures .1) in
+    let w3 = part-next (r1 + r2) signature (c3 .last .1 .0) w2 (omega arith) (omega (arith, h)) (c3 .ensures .1) in
+    let w4 = part-next (r1 + r2 + r3) cert (c4 .last .1 .0) w3 (omega arith) (omega (arith, h)) (c4 .ensures .1) in
+    let w5 = part-next (r1 + r2 + r3 + r4) provider (c5 .last .1 .0) w4 (omega arith) (omega (arith, h)) (c5 .ensures .1) in
+    let row = five (paddedPart identity) (paddedPart key) (paddedPart signature) (paddedPart cert) (paddedPart provider) in
+    w5 .bytes ∙ ap (λ (bs : List ℕ). over bs (now (a .out))) row
 
 pub write-security-parts-spec : {M : Type 1} → statement M
 write-security-parts-spec =

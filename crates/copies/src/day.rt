@@ -12,6 +12,7 @@ use streams::window::Window;
 use streams::window::bytes_held;
 use streams::window::refill;
 ghost use mathlib.Core.Path.{_≡_};
+ghost use mathlib.Core.Bool.{cond};
 ghost use Prim.Native.Nat.{_+_, _<_, _≤_};
 ghost use lib.ListN.{length};
 ghost use Rattle.copies.specs.Day.{DayHolds};
@@ -79,8 +80,7 @@ struct Step {
 
 fn end_step() -> Step
     ensures { λ r. ⌜ r .written .0 ≡ 0 ⌝ }
-    ensures { λ r. ⌜ r .copied ≡ 0 ⌝ }
-    ensures { λ r. ⌜ r .«left_out» ≡ 0 ⌝ }
+    ensures { λ r. ⌜ r .copied + r .«left_out» ≡ cond (r .«is_end») 0 1 ⌝ }
 {
     Step {
         size: Bytes(0),
@@ -94,8 +94,7 @@ fn end_step() -> Step
 // Copies the record at the first byte of `s`, and tells why where it has to be left out or the file to end.
 fn copy_next(number: u64, s: &[u8], out: &mut [u8]) -> Step
     ensures { λ r. ⌜ r .written .0 ≤ length (now (out .entry)) ⌝ }
-    ensures { λ r. ⌜ r .copied ≤ 1 ⌝ }
-    ensures { λ r. ⌜ r .«left_out» ≤ 1 ⌝ }
+    ensures { λ r. ⌜ r .copied + r .«left_out» ≡ cond (r .«is_end») 0 1 ⌝ }
 {
     match copy_record(s, out) {
         CopiedRecord::Copied(copy) => {
@@ -128,11 +127,11 @@ fn copy_next(number: u64, s: &[u8], out: &mut [u8]) -> Step
     }
 }
 
-// The record of this number, its copy behind those that wait.
+// The record of this number, its copy behind those that wait; or there is none.
 fn advance(number: u64, input: &[u8], output: &mut [u8], before: Day) -> Day
     requires { ⌜ number < 18446744073709551615 ⌝ }
     requires { ⌜ DayHolds number (now output) before ⌝ }
-    ensures { λ r. ⌜ DayHolds (number + 1) (now (output .entry)) r ⌝ }
+    ensures { λ r. ⌜ DayHolds (cond (r .«is_over») number (number + 1)) (now (output .entry)) r ⌝ }
 {
     let window = before.window;
     let at = before.used.0;

@@ -1,24 +1,27 @@
 -- The three statements, from what the copier's answer tells, from demand 3, and from a head that is read as it was written.
 use Prim.Native.Nat.{ℕ, _+_, _<_, _≤_}
 use mathlib.Core.Path.{_≡_, refl, sym, ap, ap₂, subst, _∙_}
-use mathlib.Core.Bool.{Bool, true, false, cond}
+use mathlib.Core.Bool.{Bool, true, false}
 use mathlib.Core.List.{List, [], _++_, append-nil}
 use native.Mathlib.Omega.{arith}
-use borrow.Author.Tests.{le-ltb, ltb-false, ltb-true}
+use borrow.Author.Tests.{ltb-false, ltb-true}
 use lib.ListN.{length, getD, take, drop, length-drop, length-take, List·getD-eq-default}
 use lib.Seq.{drop-at, getD-drop, getD-take, length-take-le}
 use lib.Dec.{ltb}
 use Rattle.octets.specs.Octets.{Octets}
+use Rattle.octets.specs.Over.{over}
 use Rattle.octets.specs.declared.count.Bytes.{Bytes}
 use Rattle.rules.specs.Judged.{Agrees, copyOf}
+use Rattle.rules.specs.Output.{writerOutput}
 use Rattle.rules.specs.Reading.{SameSummary, summarize}
 use Rattle.rules.specs.Refusal.{bytes, refusal}
-use Rattle.rules.specs.Support.{copyAnswer, copyBytes as supportBytesOf, supportAnswer, supportBytes}
+use Rattle.rules.specs.Support.{copyAnswer, copyOutput, supportAnswer, supportBytes}
 use Rattle.rules.specs.declared.section.Output.{Output}
 use Rattle.rules.specs.declared.section.Output.the-variants.{Written, Refused as Output·Refused}
 use Rattle.rules.specs.declared.section.Summarized.{Summarized}
 use Rattle.rules.specs.declared.section.Summarized.the-variants.{Accepted, Refused as Summarized·Refused}
 use Rattle.rules.specs.declared.section.Summary.{Summary}
+use Rattle.rules.proofs.Laws.Output.{answer-written}
 use Rattle.secrecy.proofs.Demand3.{agrees-reads, copies-agree, demand3}
 use Rattle.secrecy.proofs.ReadAlike.{reads-accepted}
 use Rattle.secrecy.proofs.Unread.{bytes-after}
@@ -64,7 +67,8 @@ module _ (s out : List ℕ) (h : Head) (found : nextHead s ≡ Found h) where
           let f = head-fits s h found in
           let size = section-size first section m a in
           let n = m .parts .«section_length» .0 in
-          let fits = le-ltb (length (drop 8 out)) n (omega (arith, length-drop 8 out, size .input, length-behind h s (f .input), f .small)) in
+          let room : n ≤ length (drop 8 out) = omega (arith, length-drop 8 out, size .input, length-behind h s (f .input), f .small) in
+          let fits = answer-written (refusal 0 0) n (drop 8 out) refl room in
           let z : _≡_ {A = ℕ} 0 1 = cc fits in
           absurd (omega arith)
       go (Summarized·Refused r) a e = a ∙ ap Summarized·Refused (let same : r ≡ l .refusal = cc in same)
@@ -146,18 +150,17 @@ listed s out c r octets copied next = go (nextHead s) refl copied next
     go NextHead·Stop e copied f = absurd (let z : _≡_ {A = ℕ} 0 1 = cc in omega arith)
     go (Found h) e copied f = behind h (sectionAnswer h s out) e refl copied f
 
--- the output behind an accepted section's copy, by its summary and its copy
-abbrev outputOf : Bool → Summary → List ℕ → List ℕ → List ℕ
-outputOf first m copy out =
-    cond (ltb (length (drop 8 out)) (m .parts .«section_length» .0)) out
-    (headBytes (record { «security_first» = first; length = m .parts .«section_length» })
-    ++ (copy ++ drop (m .parts .«section_length» .0) (drop 8 out)))
+-- the output behind an accepted section's copy, by the copy and by what the copier answers
+abbrev outputOf : Bool → List ℕ → List ℕ → Output → List ℕ
+outputOf first copy out (Written n) = headBytes (record { «security_first» = first; length = n }) ++ over copy (drop 8 out)
+outputOf first copy out (Output·Refused r) = out
 
 accepted-output : (s out : List ℕ) (h : Head) (m : Summary) → nextHead s ≡ Found h
     → summarize (h .«security_first») (sectionBehind h s) ≡ Accepted m
-    → copyBytes s out ≡ outputOf (h .«security_first») m (copyOf m (sectionBehind h s)) out
-unfolding copyBytes bytesFrom bytesBehind sectionAnswer supportAnswer supportBytes copyAnswer supportBytesOf
-accepted-output s out h m found e = ap (bytesFrom s out) found ∙ go (ltb (length behind) n) refl
+    → copyBytes s out ≡ outputOf (h .«security_first») (copyOf m (sectionBehind h s)) out (copyAnswer (drop 8 out) (Accepted m))
+unfolding copyBytes bytesFrom bytesBehind sectionAnswer supportAnswer supportBytes copyOutput writerOutput
+accepted-output s out h m found e =
+    ap (bytesFrom s out) found ∙ go (copyAnswer behind (Accepted m)) (ap (copyAnswer behind) e) (ap (copyOutput section behind) e)
   where
     section : List ℕ
     section = sectionBehind h s
@@ -165,28 +168,16 @@ accepted-output s out h m found e = ap (bytesFrom s out) found ∙ go (ltb (leng
     behind : List ℕ
     behind = drop 8 out
 
-    n : ℕ
-    n = m .parts .«section_length» .0
+    first : Bool
+    first = h .«security_first»
 
-    front : List ℕ
-    front = headBytes (record { «security_first» = h .«security_first»; length = m .parts .«section_length» })
-
-    answer : supportAnswer (h .«security_first») section behind
-        ≡ cond (ltb (length behind) n) (Output·Refused (refusal 13 0)) (Written (m .parts .«section_length»))
-    answer = ap (copyAnswer behind) e
-
-    bytes-told : supportBytes (h .«security_first») section behind ≡ cond (ltb (length behind) n) behind (copyOf m section ++ drop n behind)
-    bytes-told = ap (supportBytesOf section behind) e
-
-    go : (b : Bool) → ltb (length behind) n ≡ b
-        → bytesBehind h section out (supportAnswer (h .«security_first») section behind) ≡ outputOf (h .«security_first») m (copyOf m section) out
-    go true l =
-        let told : supportAnswer (h .«security_first») section behind ≡ Output·Refused (refusal 13 0) = answer ∙ (rw l) in
-        ap (bytesBehind h section out) told ∙ (rw l)
-    go false l =
-        let told : supportAnswer (h .«security_first») section behind ≡ Written (m .parts .«section_length») = answer ∙ (rw l) in
-        let copied : supportBytes (h .«security_first») section behind ≡ copyOf m section ++ drop n behind = bytes-told ∙ (rw l) in
-        ap (bytesBehind h section out) told ∙ ap (λ (x : List ℕ). front ++ x) copied ∙ (rw l)
+    go : (o : Output) → supportAnswer first section behind ≡ o
+        → supportBytes first section behind ≡ writerOutput o (copyOf m section) behind
+        → bytesBehind h section out (supportAnswer first section behind) ≡ outputOf first (copyOf m section) out o
+    go (Written n) answer copied =
+        ap (bytesBehind h section out) answer
+        ∙ ap (λ (x : List ℕ). headBytes (record { «security_first» = first; length = n }) ++ x) copied
+    go (Output·Refused r) answer copied = ap (bytesBehind h section out) answer
 
 -- of records that agree both are accepted with one summary, and their copies are the same bytes
 same : (s t out : List ℕ) (h k : Head) (m : Summary) → Octets s → Octets t → nextHead s ≡ Found h → nextHead t ≡ Found k
@@ -199,7 +190,7 @@ same s t out h k m bs bt hs ht way e agrees =
     let other = reads-accepted (agrees-reads first left m e right (octets-behind h s bs) (octets-behind k t bt) agrees) in
     let copies = copies-agree first left m e right other .1 agrees in
     accepted-output s out h m hs e
-    ∙ ap₂ (λ (f : Bool) (copy : List ℕ). outputOf f m copy out) way copies
+    ∙ ap₂ (λ (f : Bool) (copy : List ℕ). outputOf f copy out (copyAnswer (drop 8 out) (Accepted m))) way copies
     ∙ sym (accepted-output t out k m ht (subst (λ (f : Bool). summarize f right ≡ Accepted m) way other))
 
 pub copying : Copying

@@ -10,13 +10,14 @@ use requests::signature::signature_count;
 use requests::text::name_fits;
 use requests::values;
 use rules::class::is_listed;
+use rules::properties::bad_allocation;
 use rules::refusal;
 use rules::refusal::Checked;
 use rules::refusal::Refusal;
-use rules::section::LIMIT;
 use rules::security::SecurityFields;
 use rules::security::identity_head_fits;
 use rules::security::identity_size_fits;
+use rules::security::part_too_large;
 ghost use mathlib.Core.Path.{_≡_};
 ghost use mathlib.Core.Bool.{not};
 ghost use lib.Dec.{ltb};
@@ -162,24 +163,19 @@ fn too_large(request: Request, encryption_key: &[u8], signature: &[u8], sender_c
     ensures { λ r. ⌜ r
         ≡ tooLarge request (now («encryption_key» .entry)) (now (signature .entry)) (now («sender_cert» .entry)) ⌝ }
 {
-    if 65535 < encryption_key.len() {
-        return true;
-    }
-    if 65535 < kept_bytes(request, signature).length.0 {
-        return true;
-    }
-    65535 < sender_cert.len()
+    let kept = kept_bytes(request, signature);
+    part_too_large(
+        Bytes(encryption_key.len()),
+        kept.length,
+        Bytes(sender_cert.len()),
+    )
 }
 
 // as P4
 fn allocation_fails(request: Request, body: &[u8]) -> bool
     ensures { λ r. ⌜ r ≡ allocationFails request (now (body .entry)) ⌝ }
 {
-    let allocation = allocation_of(request).0;
-    if allocation < body_size(request, body).0 {
-        return true;
-    }
-    LIMIT < allocation
+    bad_allocation(body_size(request, body), allocation_of(request))
 }
 
 // A request is refused at place 0.

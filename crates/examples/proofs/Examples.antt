@@ -7,7 +7,7 @@ use Rattle.octets.specs.Padding.{padded, padding}
 use Rattle.octets.specs.Part.{within}
 use Rattle.octets.specs.Text.{isText, lastOnly, unitBytes, units}
 use Rattle.rules.specs.Listed.{classes, listed}
-use Rattle.rules.specs.Output.{writerOutput}
+use Rattle.rules.specs.Output.{writerAnswer, writerOutput}
 use Rattle.rules.specs.Properties.{bodyAt, extensionAt, labelContents, labelText, propertiesFields, propertiesLength, propertiesParts, propertiesSteps, readProperties, propertiesRow}
 use Rattle.rules.specs.Reading.{fieldsAt, headerAt, judge, propertiesNumber, securityHeader, securityNumber, startAt, summarize, summaryAt}
 use Rattle.rules.specs.Refusal.{firstOf}
@@ -38,6 +38,6 @@ unfolding le toLe padded padding within isText lastOnly unitBytes units classes 
     bodyOr correlationOr encryption propertiesOf senderOf signatureCount signatureOf titleOf isGiven valueOr labelWith
     packetPrivacy propertiesAt propertiesFieldsOf providerInfo sectionLength securityFieldsOf securityFirst
     securityFlags algorithmMissing allocationFails answerOf defaulted directPrivacy firstFailure hashMissing
-    identityFails outOfRange providerFails requestSteps splitFails steps tooLarge answerAfter givenBy sendAnswer sendBytes writerOutput over
+    identityFails outOfRange providerFails requestSteps splitFails steps tooLarge answerAfter givenBy sendAnswer sendBytes writerAnswer writerOutput over
     valuesOf examples imageTold labelTold refusalTold sectionTold image nothingGiven properties security text titled
 examples-hold = refl

@@ -23,7 +23,7 @@ writeSteps f fixed text =
 
 -- ", then 13": what the writer answers, and what the lent output then holds
 unfoldable pub writeAnswer : QueueFormat → List ℕ → List ℕ → List ℕ → Output
-writeAnswer f fixed text out = writerAnswer (refusal (writeSteps f fixed text) 0) (imageBytes f (fixed ++ text)) out
+writeAnswer f fixed text out = writerAnswer (refusal (writeSteps f fixed text) 0) (length (imageBytes f (fixed ++ text))) out
 
 unfoldable pub writeBytes : QueueFormat → List ℕ → List ℕ → List ℕ → List ℕ
 writeBytes f fixed text out = writerOutput (writeAnswer f fixed text out) (imageBytes f (fixed ++ text)) out

@@ -1,7 +1,7 @@
 -- 01, the lines that the listing program prints, as ASCII codes: columns with a space between them, a newline at the end.
 use Prim.Native.Nat.{ℕ}
 use mathlib.Core.List.{List, [], _∷_, _++_}
-use lib.ListN.{take}
+use lib.ListN.{length, take}
 use Rattle.rules.specs.Output.{writerAnswer, writerOutput}
 use Rattle.rules.specs.Refusal.{refusal}
 use Rattle.rules.specs.declared.section.Output.{Output}
@@ -76,7 +76,7 @@ withLine row used out = take used out ++ rowBytes row
 
 -- what is answered where it is to be written over that output, and what the output then holds: 13 where it is longer
 unfoldable pub appendAnswer : Row → ℕ → List ℕ → Output
-appendAnswer row used out = writerAnswer (refusal 0 0) (withLine row used out) out
+appendAnswer row used out = writerAnswer (refusal 0 0) (length (withLine row used out)) out
 
 unfoldable pub appendBytes : Row → ℕ → List ℕ → List ℕ
 appendBytes row used out = writerOutput (appendAnswer row used out) (withLine row used out) out

@@ -5,8 +5,9 @@ use mathlib.Core.List.{List, [], _∷_}
 use lib.ListN.{length}
 use lib.Dec.{eqb, ltb}
 use Rattle.rules.specs.Listed.{classes, listed}
+use Rattle.rules.specs.Properties.{badAllocation}
 use Rattle.rules.specs.Refusal.{bytes, limit, refusal}
-use Rattle.rules.specs.Security.{identityHead, identitySize}
+use Rattle.rules.specs.Security.{identityHead, identitySize, partTooLarge}
 use Rattle.rules.specs.declared.refusal.Checked.{Checked}
 use Rattle.rules.specs.declared.refusal.Checked.the-variants.{Passed, Refused}
 use Rattle.rules.specs.declared.security.SecurityFields.{SecurityFields}
@@ -79,12 +80,11 @@ splitFails v signature =
 
 -- 6: "Key, signature as cut by 5, or certificate above 65,535 bytes"
 unfoldable pub tooLarge : Request → List ℕ → List ℕ → List ℕ → Bool
-tooLarge v key signature certificate =
-    ltb 65535 (length key) || ltb 65535 (length (signatureOf v signature)) || ltb 65535 (length certificate)
+tooLarge v key signature certificate = partTooLarge (length key) (length (signatureOf v signature)) (length certificate)
 
--- as P4
+-- "Allocation: 11", as P4
 unfoldable pub allocationFails : Request → List ℕ → Bool
-allocationFails v body = ltb (allocation v) (length (bodyOf v body)) || ltb limit (allocation v)
+allocationFails v body = badAllocation (length (bodyOf v body)) (allocation v)
 
 -- each step: whether it fails, and its number
 unfoldable pub steps : SendRequest → List (Bool × ℕ)

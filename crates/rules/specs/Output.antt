@@ -10,12 +10,12 @@ use Rattle.rules.specs.declared.refusal.Refusal.{Refusal}
 use Rattle.rules.specs.declared.section.Output.{Output}
 use Rattle.rules.specs.declared.section.Output.the-variants.{Written, Refused}
 
--- "then 13", after the steps, whose refusal has the number 0 where none of them fails: else the length of the bytes to be written
-unfoldable pub writerAnswer : Refusal → List ℕ → List ℕ → Output
-writerAnswer r written out =
+-- "then 13", after the steps, whose refusal has the number 0 where none of them fails: else n, how many bytes are written
+unfoldable pub writerAnswer : Refusal → ℕ → List ℕ → Output
+writerAnswer r n out =
     cond (not (eqb (r .number) 0)) (Refused r)
-    (cond (ltb (length out) (length written)) (Refused (refusal 13 0))
-    (Written (bytes (length written))))
+    (cond (ltb (length out) n) (Refused (refusal 13 0))
+    (Written (bytes n)))
 
 -- refused, "no output byte written"; "Written output starts at its first byte; bytes behind it stay"
 unfoldable pub writerOutput : Output → List ℕ → List ℕ → List ℕ

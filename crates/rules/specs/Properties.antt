@@ -78,12 +78,16 @@ propertiesParts p f =
       «section_length» = bytes (p + propertiesLength f);
     }
 
+-- P4: "AllocationBodySize below MessageSize or above the limit (ours)"
+abbrev pub badAllocation : ℕ → ℕ → Bool
+badAllocation size allocation = ltb allocation size || ltb limit allocation
+
 -- P2 to P4, on the fixed bytes
 unfoldable pub propertiesSteps : PropertiesFields → ℕ
 propertiesSteps f =
     cond (ltb 250 (f .«label_length» .0)) 9  -- P2
     (cond (not (listed classes (f .«message_class»))) 10  -- P3
-    (cond (ltb (f .«allocation_body_size» .0) (f .«message_size» .0) || ltb limit (f .«allocation_body_size» .0)) 11  -- P4
+    (cond (badAllocation (f .«message_size» .0) (f .«allocation_body_size» .0)) 11  -- P4
     0))
 
 -- P7: "in a label, if any, only the last unit is zero"

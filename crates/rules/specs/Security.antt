@@ -108,6 +108,10 @@ providerSize de signature n =
     (cond (ltb 0 signature) (eqb (n % 2) 0 && leb 8 n)
     (eqb n 0 || (eqb (n % 2) 0 && leb 6 n)))
 
+-- 28: "Key, signature .. or certificate above 65,535 bytes", of the sizes that a writer is given
+abbrev pub partTooLarge : ℕ → ℕ → ℕ → Bool
+partTooLarge key signature certificate = ltb 65535 key || ltb 65535 signature || ltb 65535 certificate
+
 -- S2 to S7, on the fixed bytes
 unfoldable pub securitySteps : SecurityFields → ℕ
 securitySteps f =

@@ -10,7 +10,7 @@ use octets::count::Units;
 use octets::text::is_text;
 ghost use mathlib.Core.Path.{_≡_};
 ghost use Prim.Native.Nat.{_+_, min};
-ghost use Rattle.rules.specs.Properties.{labelContents, propertiesLength, propertiesSteps};
+ghost use Rattle.rules.specs.Properties.{badAllocation, labelContents, propertiesLength, propertiesSteps};
 ghost use Rattle.rules.specs.Refusal.{limit};
 
 // P2: a label has at most so many units.
@@ -40,6 +40,13 @@ pub struct PropertiesParts {
     pub section_length: Bytes,
 }
 
+// P4, also for a request
+pub fn bad_allocation(message_size: Bytes, allocation: Bytes) -> bool
+    ensures { λ r. ⌜ r ≡ badAllocation («message_size» .0) (allocation .0) ⌝ }
+{
+    (allocation.0 < message_size.0) | (LIMIT < allocation.0)
+}
+
 // P2 to P4
 pub fn properties_steps(f: PropertiesFields) -> u32
     ensures { λ r. ⌜ r ≡ propertiesSteps f ⌝ }
@@ -50,10 +57,7 @@ pub fn properties_steps(f: PropertiesFields) -> u32
     if !is_listed(f.message_class) {
         return refusal::CLASS;
     }
-    if f.allocation_body_size.0 < f.message_size.0 {
-        return refusal::ALLOCATION;
-    }
-    if LIMIT < f.allocation_body_size.0 {
+    if bad_allocation(f.message_size, f.allocation_body_size) {
         return refusal::ALLOCATION;
     }
     refusal::PASSED

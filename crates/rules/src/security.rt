@@ -11,7 +11,7 @@ ghost use mathlib.Core.Path.{_≡_};
 ghost use Prim.Native.Nat.{_+_, _-_, _/_, min};
 ghost use Rattle.rules.specs.Layout.{LargestSize};
 ghost use Rattle.rules.specs.Refusal.{limit};
-ghost use Rattle.rules.specs.Security.{allEmpty, identitySize, identityHead, providerSize, providerText, securityContents, securityLength, securitySteps};
+ghost use Rattle.rules.specs.Security.{allEmpty, identitySize, identityHead, partTooLarge, providerSize, providerText, securityContents, securityLength, securitySteps};
 
 // The bits of Flags, each by its lowest; ST is below AU.
 pub const AU: u32 = 0x0010;
@@ -117,6 +117,13 @@ fn provider_size_fits(de: u32, signature: Bytes, size: Bytes) -> bool
         return false;
     }
     6 <= size.0
+}
+
+// 28
+pub fn part_too_large(key: Bytes, signature: Bytes, certificate: Bytes) -> bool
+    ensures { λ r. ⌜ r ≡ partTooLarge (key .0) (signature .0) (certificate .0) ⌝ }
+{
+    (65535 < key.0) | (65535 < signature.0) | (65535 < certificate.0)
 }
 
 // S2 to S7

@@ -12,10 +12,12 @@ use borrow.Author.Tests.{lt-ltb, le-ltb}
 use lib.ListN.{length, getD, take, drop, length-append, List·getD-append}
 use lib.Seq.{take-at, drop-at}
 use Rattle.octets.specs.Octets.{Octets}
+use Rattle.octets.specs.Over.{over}
 use Rattle.rules.specs.Judged.{Agrees, copyOf, judged}
+use Rattle.rules.specs.Output.{writerAnswer, writerOutput}
 use Rattle.rules.specs.Reading.{SameSummary, summarize}
 use Rattle.rules.specs.Summary.{labelOf, providerNameOf}
-use Rattle.rules.specs.Support.{supportAnswer, supportBytes, copyAnswer, copyBytes}
+use Rattle.rules.specs.Support.{supportAnswer, supportBytes, copyAnswer, copyOutput}
 use Rattle.rules.specs.declared.section.Summarized.the-variants.{Accepted}
 use Rattle.rules.specs.declared.section.Summary.{Summary}
 use Rattle.rules.proofs.Laws.Accepted.{SectionPassed, section-passed}
@@ -60,8 +62,9 @@ module _ (first : Bool) (s : List ℕ) (m : Summary) (e : summarize first s ≡ 
   -- given room, the copy is what stands first in the output
   module _ (out : List ℕ) (room : sectionLength m ≤ length out) where
     copy-written : supportBytes first s out ≡ copyOf m s ++ drop (sectionLength m) out
-    unfolding supportBytes copyBytes
-    copy-written = rw (e, le-ltb (length out) (sectionLength m) room)
+    unfolding supportBytes copyAnswer copyOutput writerAnswer writerOutput over
+    copy-written =
+        rw (e, le-ltb (length out) (sectionLength m) room) (ap (λ (n : ℕ). copyOf m s ++ drop n out) (copy-masked .size))
 
     copy-first : take (sectionLength m) (supportBytes first s out) ≡ copyOf m s
     copy-first = rw copy-written (take-at (copyOf m s) (drop (sectionLength m) out) (sectionLength m) (copy-masked .size))
@@ -123,7 +126,7 @@ module _ (first : Bool) (s : List ℕ) (m : Summary) (e : summarize first s ≡ 
 
 -- the copier's answer is the reader's, and then the test of the output's length
 copy-refused : (first : Bool) (s out : List ℕ) → CopyRefused first s out
-unfolding supportAnswer supportBytes copyAnswer copyBytes
+unfolding supportAnswer supportBytes copyAnswer copyOutput writerAnswer writerOutput
 copy-refused first s out =
     record {
       reading = λ r e. (rw e, rw e);

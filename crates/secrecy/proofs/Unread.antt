@@ -11,7 +11,7 @@ use Rattle.rules.specs.Judged.{copyOf, judged}
 use Rattle.rules.specs.Properties.{propertiesLength}
 use Rattle.rules.specs.Reading.{fullReading, read, summarize}
 use Rattle.rules.specs.Summary.{propertiesAt, sectionOf}
-use Rattle.rules.specs.Support.{copyAnswer, copyBytes, supportAnswer, supportBytes}
+use Rattle.rules.specs.Support.{copyAnswer, copyOutput, supportAnswer, supportBytes}
 use Rattle.rules.specs.declared.section.Summarized.the-variants.{Accepted}
 use Rattle.rules.specs.declared.section.Summary.{Summary}
 use Rattle.rules.proofs.Laws.Accepted.{SectionPassed, section-fits, section-passed}
@@ -59,7 +59,7 @@ module _ (first : Bool) (s rest : List ℕ) (m : Summary) (e : summarize first s
       rw (fixed-same s followed (sectionLength m) (passed .properties .reaches) room same p 56 (omega arith) 4 28 refl)
 
   after : ReadTheSame first s followed
-  unfolding read fullReading supportAnswer supportBytes copyAnswer copyBytes
+  unfolding read fullReading supportAnswer supportBytes copyAnswer copyOutput
   after =
       let accepted = reads-accepted followed-reads in
       record {

@@ -1,14 +1,14 @@
 -- The theorems of send requests, as corollaries of what is sent and of what the writer and the reader say of each other.
 use Prim.Native.Nat.{ℕ, _≤_}
-use mathlib.Core.Path.{_≡_, ap, _∙_}
+use mathlib.Core.Path.{_≡_, refl, sym, ap, _∙_}
 use mathlib.Core.List.{List}
-use borrow.Author.Tests.{le-ltb, lt-ltb}
 use lib.ListN.{length, drop}
 use lib.Seq.{drop-at}
 use Rattle.octets.specs.Over.{over}
 use Rattle.rules.specs.Output.{writerOutput}
-use Rattle.rules.specs.Refusal.{bytes}
+use Rattle.rules.specs.Refusal.{bytes, refusal}
 use Rattle.rules.specs.declared.section.Output.the-variants.{Written}
+use Rattle.rules.proofs.Laws.Output.{answer-short, answer-written}
 use Rattle.writing.specs.Writing.{sectionBytes}
 use Rattle.writing.proofs.Laws.Laid.{length-section}
 use Rattle.requests.specs.Request.{SendRequest}
@@ -26,7 +26,7 @@ use Rattle.sending.proofs.Laws.Send.{gets}
 sent : (q : SendRequest) (p : Properties) (out : List ℕ) → defaulted q ≡ Defaulted·Properties p → sectionLength q ≤ length out
     → sendAnswer q out ≡ Written (bytes (sectionLength q))
 unfolding sendAnswer answerAfter
-sent q p out e room = rw (e, le-ltb (length out) (sectionLength q) room)
+sent q p out e room = rw e (sym (answer-written (refusal 0 0) (sectionLength q) out refl room))
 
 held : (q : SendRequest) (p : Properties) (id out : List ℕ) → defaulted q ≡ Defaulted·Properties p → sectionLength q ≤ length out
     → sendBytes q id out ≡ over (sectionBytes (givenBy q id)) out
@@ -45,7 +45,7 @@ unfolding sendAnswer answerAfter sendBytes writerOutput over
 sending =
     record {
       sent = sent;
-      short = λ q p out e short. rw (e, lt-ltb (length out) (sectionLength q) short);
+      short = λ q p out e short. rw e (sym (answer-short (refusal 0 0) (sectionLength q) out refl short));
       readBack =
           λ q p id out t e room. rw (held q p id out e room)
           (read-back q p id (drop (length (sectionBytes (givenBy q id))) out) t (gets q p e));

@@ -5,10 +5,10 @@ use mathlib.Core.List.{List}
 use lib.ListN.{length}
 use lib.Dec.{ltb}
 use Rattle.octets.specs.Lent.{Lent}
-use Rattle.rules.specs.Output.{writerOutput}
+use Rattle.rules.specs.Output.{writerAnswer, writerOutput}
 use Rattle.rules.specs.Refusal.{bytes, refusal}
 use Rattle.rules.specs.declared.section.Output.{Output}
-use Rattle.rules.specs.declared.section.Output.the-variants.{Written, Refused as Output·Refused}
+use Rattle.rules.specs.declared.section.Output.the-variants.{Refused as Output·Refused}
 use Rattle.writing.specs.Given.{Given, given}
 use Rattle.writing.specs.Writing.{sectionBytes}
 use Rattle.writing.specs.declared.values.SectionValues.{SectionValues}
@@ -69,8 +69,7 @@ withInfo request signature name values senderId encryptionKey kept senderCert la
 
 -- 6: "Output: 13"
 unfoldable pub answerAfter : SendRequest → List ℕ → Defaulted → Output
-answerAfter q out (Defaulted·Properties p) =
-    cond (ltb (length out) (sectionLength q)) (Output·Refused (refusal 13 0)) (Written (bytes (sectionLength q)))
+answerAfter q out (Defaulted·Properties p) = writerAnswer (refusal 0 0) (sectionLength q) out
 answerAfter q out (Defaulted·Refused r) = Output·Refused r
 
 -- what the sender answers, and what the lent output then holds

@@ -95,35 +95,23 @@ unfolding sentAnswer
 sent-told first (Written n) h = told-accepted Written n
 sent-told first (Refused r) h = told-refused Written _ _ _ h (λ w f. let z : _≡_ {A = ℕ} 0 1 = cc in omega arith)
 
--- 13, after steps of which the first that fails has this refusal
-room-numbered : (short : Bool) (n : Bytes) → Numbered (cond short (Refused (refusal 13 0)) (Written n))
-room-numbered true n = λ e. omega arith
-room-numbered false n = tt
-
-steps-numbered : (r : Refusal) (o : Output) → Numbered o → Numbered (cond (not (eqb (r .number) 0)) (Refused r) o)
-steps-numbered r o h = go (eqb (r .number) 0) refl
+-- a writer's answer: the steps' refusal where its number is not 0, or 13
+writer-numbered : (r : Refusal) (n : ℕ) (out : List ℕ) → Numbered (writerAnswer r n out)
+unfolding writerAnswer
+writer-numbered r n out = go (eqb (r .number) 0) (ltb (length out) n) refl refl
   where
-    go : (b : Bool) → eqb (r .number) 0 ≡ b → Numbered (cond (not (eqb (r .number) 0)) (Refused r) o)
-    go true e = rw e h
-    go false e = rw e (eqb-false (r .number) 0 e)
+    go : (passed short : Bool) → eqb (r .number) 0 ≡ passed → ltb (length out) n ≡ short → Numbered (writerAnswer r n out)
+    go false short e l = rw e (eqb-false (r .number) 0 e)
+    go true true e l = rw (e, l) (λ z. omega arith)
+    go true false e l = rw (e, l) tt
 
 copying : (first : Bool) (s out : List ℕ) → Numbered (supportAnswer first s out)
 unfolding supportAnswer summarize copyAnswer
 copying first s out = go (eqb (judge first s .number) 0) refl
   where
     go : (b : Bool) → eqb (judge first s .number) 0 ≡ b → Numbered (supportAnswer first s out)
-    go true e = rw e (room-numbered (ltb (length out) (summaryAt first s .parts .«section_length» .0)) _)
+    go true e = rw e (writer-numbered (refusal 0 0) (summaryAt first s .parts .«section_length» .0) out)
     go false e = rw e (eqb-false (judge first s .number) 0 e)
-
-writing : (g : Given) (out : List ℕ) → Numbered (writeAnswer g out)
-unfolding writeAnswer
-writing g out = steps-numbered (writeRefusal g) _ (room-numbered (ltb (length out) (layoutLength g)) _)
-
-imageWriting : (f : QueueFormat) (fixed text out : List ℕ) → Numbered (writeImage f fixed text out)
-unfolding writeImage writerAnswer
-imageWriting f fixed text out =
-    let short = ltb (length out) (length (imageBytes f (fixed ++ text))) in
-    steps-numbered (refusal (writeSteps f fixed text) 0) _ (room-numbered short _)
 
 -- requests: each step has a number
 numbers : List (Bool × ℕ) → Bool
@@ -153,7 +141,7 @@ defaulting q id (Checked·Refused r) h = told-refused Defaulted·Properties _ _ 
 
 sending : (q : SendRequest) (out : List ℕ) (c : Checked) → FailureNumbered c → Numbered (answerAfter q out (answerOf (properties q) c))
 unfolding answerOf answerAfter
-sending q out Passed h = room-numbered (ltb (length out) (sectionLength q)) _
+sending q out Passed h = writer-numbered (refusal 0 0) (sectionLength q) out
 sending q out (Checked·Refused r) h = h
 
 request-numbered : (q : SendRequest) → FailureNumbered (requestSteps q)
@@ -161,14 +149,16 @@ unfolding requestSteps steps numbers
 request-numbered q = failure-numbered (steps q) refl
 
 pub number-tells : NumberTells
-unfolding defaulted defaultedAnswer sendAnswer
+unfolding writeAnswer writeImage defaulted defaultedAnswer sendAnswer
 number-tells =
     record {
       reading = reading;
       copying = λ first s out. written-told _ (copying first s out);
-      writing = λ g out. written-told _ (writing g out);
+      writing = λ g out. written-told _ (writer-numbered (writeRefusal g) (layoutLength g) out);
       imageReading = imageReading;
-      imageWriting = λ f fixed text out. written-told _ (imageWriting f fixed text out);
+      imageWriting =
+          λ f fixed text out. written-told _
+          (writer-numbered (refusal (writeSteps f fixed text) 0) (length (imageBytes f (fixed ++ text))) out);
       defaulting = λ q id. defaulting q (correlationOf (q .values) id) (requestSteps q) (request-numbered q);
       sending = λ q out. sent-told (first q) _ (sending q out (requestSteps q) (request-numbered q));
       listing = listing;

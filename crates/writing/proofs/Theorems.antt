@@ -1,18 +1,18 @@
 -- The theorems of the section writer.
 use Prim.Native.Nat.{ℕ, _≤_}
 use mathlib.Core.Path.{_≡_, refl, sym, ap, subst, _∙_}
-use mathlib.Core.Bool.{Bool, cond}
+use mathlib.Core.Bool.{Bool}
 use mathlib.Core.List.{List, _++_}
 use borrow.Author.Tests.{eq-eqb}
 use lib.ListN.{length, take, drop}
-use lib.Dec.{ltb}
 use Rattle.octets.specs.Octets.{Octets}
 use Rattle.octets.specs.Over.{over}
 use Rattle.octets.specs.declared.count.Bytes.{Bytes}
 use Rattle.rules.specs.Judged.{copyOf}
+use Rattle.rules.specs.Output.{writerAnswer}
 use Rattle.rules.specs.Reading.{read, summarize}
 use Rattle.rules.specs.Refusal.{bytes, refusal}
-use Rattle.rules.specs.Support.{copyAnswer, copyBytes, supportAnswer, supportBytes}
+use Rattle.rules.specs.Support.{copyAnswer, copyOutput, supportAnswer, supportBytes}
 use Rattle.rules.specs.declared.section.Output.the-variants.{Written}
 use Rattle.rules.specs.declared.section.Reading.the-variants.{Accepted}
 use Rattle.rules.specs.declared.section.Section.{Section}
@@ -23,7 +23,7 @@ use Rattle.writing.proofs.Laws.Again.{Way, accepted, accepted-again}
 use Rattle.writing.proofs.Laws.Carried.{properties-carried, security-carried}
 use Rattle.writing.proofs.Laws.Hidden.{hidden-identity, hidden-properties, hidden-security, properties-hidden, security-hidden}
 use Rattle.writing.proofs.Laws.Laid.{length-section}
-use Rattle.writing.proofs.Laws.Output.{output-tested, placed-answer, placed-behind, placed-bytes, placed-first, written-placed}
+use Rattle.writing.proofs.Laws.Output.{placed-answer, placed-behind, placed-bytes, placed-first, written-placed}
 use Rattle.writing.proofs.Laws.ReadBack.{section-back}
 
 -- what was read, as it is
@@ -61,13 +61,14 @@ written : (g : Given) (out : List ℕ) (n : Bytes) → WellFormed g → writeAns
 unfolding over
 written g out n w e =
     let a = written-placed g out n e in
-    subst (WrittenOutput g out) (sym (a .2))
-    (let size = length-section g (w .correlation) (a .0) in
+    subst (WrittenOutput g out) (sym (a .size))
+    (let size = length-section g (w .correlation) (a .passed) in
     record {
       length = refl;
-      behind = placed-behind g out (a .0) (a .1) size;
-      output = rw (placed-bytes g out (a .0) (a .1)) (section-back g (drop (length (sectionBytes g)) out) w (a .0));
-      followed = λ rest. rw (placed-first g out (a .0) (a .1) size) (section-back g rest w (a .0));
+      behind = placed-behind g out (a .passed) (a .room) size;
+      output =
+          rw (placed-bytes g out (a .passed) (a .room)) (section-back g (drop (length (sectionBytes g)) out) w (a .passed));
+      followed = λ rest. rw (placed-first g out (a .passed) (a .room) size) (section-back g rest w (a .passed));
     })
 
 written-again : (first : Bool) (s out : List ℕ) (r : Section) → Octets s → read first s ≡ Accepted r
@@ -85,7 +86,7 @@ written-again first s out r b e room =
     }
 
 pub writing : Writing
-unfolding writeAnswer writeBytes over supportAnswer supportBytes copyAnswer copyBytes copyOf read
+unfolding writeAnswer writeBytes writerAnswer supportAnswer supportBytes copyAnswer copyOutput copyOf read
 writing =
     record {
       written = written;
@@ -94,8 +95,5 @@ writing =
           let a = accepted-again hidden-way first s r b e in
           let none = eq-eqb (writeRefusal (hidden (givenOf r s)) .number) 0 (a .placed) in
           let summary = accepted s (summarize first s) r e .0 in
-          let n = r .summary .parts .«section_length» in
-          let short = ltb (length out) (n .0) in
-          let held = output-tested short (refusal 13 0) n (sectionBytes (hidden (givenOf r s))) out in
-          (rw (none, a .long, summary), rw (none, a .long, summary) (held ∙ λ i. cond short out (a .bytes i ++ drop ((a .size ∙ a .long) i) out)));
+          (rw (none, a .long, summary), rw (none, a .long, summary, a .bytes));
     }

@@ -5,22 +5,20 @@ use mathlib.Core.List.{List, [], _++_}
 use lib.ListN.{length, replicate}
 use lib.Dec.{eqb, ltb}
 use Rattle.octets.specs.Padding.{padding}
-use Rattle.rules.specs.Output.{writerOutput}
+use Rattle.rules.specs.Output.{writerAnswer, writerOutput}
 use Rattle.rules.specs.Properties.{labelContents, propertiesLength, propertiesRow, propertiesSteps}
 use Rattle.rules.specs.Refusal.{bytes, firstOf, limit, refusal}
 use Rattle.rules.specs.Row.{rowBytes}
-use Rattle.rules.specs.Security.{securityContents, securityLength, securityRow, securitySteps}
+use Rattle.rules.specs.Security.{partTooLarge, securityContents, securityLength, securityRow, securitySteps}
 use Rattle.rules.specs.declared.properties.PropertiesFields.{PropertiesFields}
 use Rattle.rules.specs.declared.refusal.Refusal.{Refusal}
 use Rattle.rules.specs.declared.section.Output.{Output}
-use Rattle.rules.specs.declared.section.Output.the-variants.{Written, Refused}
 use Rattle.rules.specs.declared.security.SecurityFields.{SecurityFields}
 use Rattle.writing.specs.Given.{Given, fixed, propertiesGiven, securityGiven}
 
--- 28: "Key, signature .. or certificate above 65,535 bytes"
-unfoldable pub tooLarge : SecurityFields → Bool
-tooLarge f =
-    ltb 65535 (f .«encryption_key_size» .0) || ltb 65535 (f .«signature_size» .0) || ltb 65535 (f .«sender_cert_size» .0)
+-- of what is given for a SecurityHeader
+abbrev pub tooLarge : SecurityFields → Bool
+tooLarge f = partTooLarge (f .«encryption_key_size» .0) (f .«signature_size» .0) (f .«sender_cert_size» .0)
 
 -- 28, S2 to S8, S10 and S11
 unfoldable pub writeSecurity : SecurityFields → List ℕ → List ℕ → ℕ
@@ -91,10 +89,7 @@ sectionBytes g = cond (g .values .«security_first») (securityBytes g) [] ++ pr
 
 -- what the section writer answers: the refusal, 13, or the length
 unfoldable pub writeAnswer : Given → List ℕ → Output
-writeAnswer g out =
-    cond (not (eqb (writeRefusal g .number) 0)) (Refused (writeRefusal g))
-    (cond (ltb (length out) (layoutLength g)) (Refused (refusal 13 0))  -- 13
-    (Written (bytes (layoutLength g))))
+writeAnswer g out = writerAnswer (writeRefusal g) (layoutLength g) out
 
 -- what the lent output then holds
 unfoldable pub writeBytes : Given → List ℕ → List ℕ

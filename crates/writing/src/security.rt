@@ -6,6 +6,7 @@ use octets::count::Bytes;
 use rules::refusal;
 use rules::section::LIMIT;
 use rules::security::SecurityFields;
+use rules::security::part_too_large;
 use rules::security::security_contents;
 use rules::security::security_length;
 use rules::security::security_steps;
@@ -19,7 +20,7 @@ ghost use Rattle.rules.specs.Security.{securityRow};
 ghost use Rattle.writing.specs.Fixed.{SecuritySized};
 ghost use Rattle.writing.specs.Given.{securityFrom};
 ghost use Rattle.writing.specs.Laid.{partsLength};
-ghost use Rattle.writing.specs.Writing.{securityPartsBytes, tooLarge, writeSecurity};
+ghost use Rattle.writing.specs.Writing.{securityPartsBytes, writeSecurity};
 
 pub(crate) fn security_given(
     flags: u16,
@@ -42,27 +43,11 @@ pub(crate) fn security_given(
     }
 }
 
-// 28
-fn too_large(f: SecurityFields) -> bool
-    ensures { λ r. ⌜ r ≡ tooLarge f ⌝ }
-{
-    if 65535 < f.encryption_key_size.0 {
-        return true;
-    }
-    if 65535 < f.signature_size.0 {
-        return true;
-    }
-    if 65535 < f.sender_cert_size.0 {
-        return true;
-    }
-    false
-}
-
 // 28, S2 to S8, S10 and S11
 pub(crate) fn security_number(f: SecurityFields, identity: &[u8], info: &[u8]) -> u32
     ensures { λ r. ⌜ r ≡ writeSecurity f (now (identity .entry)) (now (info .entry)) ⌝ }
 {
-    if too_large(f) {
+    if part_too_large(f.encryption_key_size, f.signature_size, f.sender_cert_size) {
         return refusal::PART_TOO_LARGE;
     }
     let number = security_steps(f);

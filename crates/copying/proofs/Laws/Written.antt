@@ -1,19 +1,18 @@
 -- What the copier's answer tells: a copy that was written is of an accepted section and has room; where none was, the output stays.
 use Prim.Native.Nat.{ℕ, _+_, _≤_}
 use mathlib.Core.Path.{_≡_, refl, sym, ap, subst, _∙_}
-use mathlib.Core.Bool.{Bool, true, false, cond}
-use mathlib.Core.List.{List, _++_}
+use mathlib.Core.Bool.{Bool}
+use mathlib.Core.List.{List}
 use native.Mathlib.Omega.{arith}
-use borrow.Author.Tests.{ltb-false}
-use lib.ListN.{drop, length}
-use lib.Dec.{ltb}
+use lib.ListN.{length}
 use Rattle.octets.specs.Padding.{padded}
 use Rattle.octets.specs.declared.count.Bytes.{Bytes}
 use Rattle.rules.specs.Judged.{copyOf}
+use Rattle.rules.specs.Output.{writerOutput}
 use Rattle.rules.specs.Properties.{propertiesLength}
 use Rattle.rules.specs.Reading.{fieldsAt, summarize, summaryAt}
 use Rattle.rules.specs.Refusal.{limit, refusal}
-use Rattle.rules.specs.Support.{copyAnswer, copyBytes, supportAnswer, supportBytes}
+use Rattle.rules.specs.Support.{copyAnswer, copyOutput, supportAnswer, supportBytes}
 use Rattle.rules.specs.declared.refusal.Refusal.{Refusal}
 use Rattle.rules.specs.declared.section.Output.{Output}
 use Rattle.rules.specs.declared.section.Output.the-variants.{Written, Refused as Output·Refused}
@@ -21,6 +20,7 @@ use Rattle.rules.specs.declared.section.Summarized.{Summarized}
 use Rattle.rules.specs.declared.section.Summarized.the-variants.{Accepted, Refused}
 use Rattle.rules.specs.declared.section.Summary.{Summary}
 use Rattle.rules.proofs.Laws.Accepted.{accepted-at}
+use Rattle.rules.proofs.Laws.Output.{has-written}
 use Rattle.reading.proofs.Laws.Passed.{section-ends}
 
 -- an accepted section has its fixed bytes, and lies in the input, within the limit
@@ -50,34 +50,23 @@ module _ (first : Bool) (s out : List ℕ) where
   unfolding supportAnswer copyAnswer
   copy-written n e = go (summarize first s) refl e
     where
-      fits : (m : Summary) (b : Bool) → summarize first s ≡ Accepted m → ltb (length out) (m .parts .«section_length» .0) ≡ b
-          → cond b (Output·Refused (refusal 13 0)) (Written (m .parts .«section_length»)) ≡ Written n → CopyWritten first s out n
-      fits m true a l e = absurd (let z : _≡_ {A = ℕ} 0 1 = cc in omega arith)
-      fits m false a l e =
-          let same : n ≡ m .parts .«section_length» = cc in
-          let number = ap (λ (x : Bytes). x .0) same in
+      go : (x : Summarized) → summarize first s ≡ x → copyAnswer out x ≡ Written n → CopyWritten first s out n
+      go (Accepted m) a e =
+          let w = has-written (refusal 0 0) (m .parts .«section_length» .0) out n e in
+          let number = ap (λ (x : Bytes). x .0) (w .size) in
           record {
             summary = m;
             accepted = a;
-            told = same;
+            told = w .size;
             size = subst (SectionSize s) (sym number) (section-size first s m a);
-            room = omega (arith, number, ltb-false (length out) (m .parts .«section_length» .0) l);
+            room = omega (arith, number, w .room);
           }
-
-      go : (x : Summarized) → summarize first s ≡ x → copyAnswer out x ≡ Written n → CopyWritten first s out n
-      go (Accepted m) a e = fits m (ltb (length out) (m .parts .«section_length» .0)) a refl e
       go (Refused r) a e = absurd (let z : _≡_ {A = ℕ} 0 1 = cc in omega arith)
 
   pub copy-refused : (r : Refusal) → supportAnswer first s out ≡ Output·Refused r → supportBytes first s out ≡ out
-  unfolding supportAnswer supportBytes copyAnswer copyBytes
+  unfolding supportAnswer supportBytes copyOutput writerOutput
   copy-refused r e = go (summarize first s) e
     where
-      fits : (m : Summary) (b : Bool)
-          → cond b (Output·Refused (refusal 13 0)) (Written (m .parts .«section_length»)) ≡ Output·Refused r
-          → cond b out (copyOf m s ++ drop (m .parts .«section_length» .0) out) ≡ out
-      fits m true e = refl
-      fits m false e = absurd (let z : _≡_ {A = ℕ} 0 1 = cc in omega arith)
-
-      go : (x : Summarized) → copyAnswer out x ≡ Output·Refused r → copyBytes s out x ≡ out
-      go (Accepted m) e = fits m (ltb (length out) (m .parts .«section_length» .0)) e
+      go : (x : Summarized) → copyAnswer out x ≡ Output·Refused r → copyOutput s out x ≡ out
+      go (Accepted m) e = ap (λ (o : Output). writerOutput o (copyOf m s) out) e
       go (Refused r) e = refl

@@ -14,6 +14,7 @@ use Rattle.octets.specs.Text.{units}
 use Rattle.octets.proofs.Laws.Part.{rest-drop, within-in, within-none}
 use Rattle.rules.proofs.Laws.Accepted.{first-next}
 use Rattle.rules.proofs.Laws.Output.{has-written}
+use Rattle.octets.specs.declared.count.Bytes.{Bytes}
 use Rattle.rules.specs.Output.{writerOutput}
 use Rattle.rules.specs.Properties.{labelText}
 use Rattle.rules.specs.Refusal.{bytes, refusal}
@@ -65,8 +66,8 @@ written-reads : (f : QueueFormat) (fixed text out : List ℕ) (n : ℕ) → writ
 unfolding writeAnswer writeBytes writerOutput over
 written-reads f fixed text out n w =
     let image : List ℕ = imageBytes f (fixed ++ text) in
-    let h = has-written (refusal (writeSteps f fixed text) 0) image out n w in
-    rw (w, take-at image (drop (length image) out) n (h .size)) (image-reads f fixed text (passing f fixed text (h .passed)))
+    let h = has-written (refusal (writeSteps f fixed text) 0) (length image) out (bytes n) w in
+    rw (w, take-at image (drop (length image) out) n (ap (λ (b : Bytes). b .0) (sym (h .size)))) (image-reads f fixed text (passing f fixed text (h .passed)))
 
 pub written-reads-back : WrittenReadsBack
 written-reads-back = record { reads = written-reads }

@@ -6,11 +6,10 @@ use native.Mathlib.Omega.{arith}
 use lib.ListN.{length, take, drop, length-append, length-take}
 use lib.Seq.{drop-drop, length-take-le}
 use Rattle.octets.specs.Over.{over, overAt}
-use Rattle.octets.specs.declared.count.Bytes.{Bytes}
 use Rattle.rules.specs.Refusal.{bytes, refusal}
 use Rattle.rules.specs.declared.section.Output.{Output}
 use Rattle.rules.specs.declared.section.Output.the-variants.{Refused, Written}
-use Rattle.rules.proofs.Laws.Output.{ends-short, ends-written, has-written}
+use Rattle.rules.proofs.Laws.Output.{ends-short, ends-written}
 use Rattle.records.specs.Line.{appendAnswer, appendBytes, endLine, headerLine, line, lineBytes, rowBytes, stopLine, withLine}
 use Rattle.records.specs.declared.line.Row.{Row}
 use Rattle.records.specs.declared.line.Row.the-variants.{Header, Record, End, Stop}
@@ -60,9 +59,3 @@ module _ (row : Row) (used : ℕ) (out : List ℕ) where
       let size : length (withLine row used out) ≡ n = omega (arith, length-with, length-take-le used out (omega arith)) in
       let w = ends-written (refusal 0 0) (withLine row used out) out refl (omega arith) in
       (ap (λ (k : ℕ). Written (bytes k)) (omega arith) ∙ w .0, l ∙ same (omega arith) ∙ w .1)
-
-  -- what is used then lies in the output
-  pub append-fits : (n : Bytes) → appendAnswer row used out ≡ Written n → n .0 ≤ length out
-  unfolding appendAnswer
-  append-fits n e =
-      let w = has-written (refusal 0 0) (withLine row used out) out (n .0) e in omega (arith, w .size, w .room)

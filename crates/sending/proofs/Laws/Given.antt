@@ -9,12 +9,12 @@ use lib.ListN.{length, getD}
 use Rattle.rules.specs.Properties.{propertiesLength}
 use Rattle.writing.specs.Given.{propertiesFrom, propertiesGiven, securityFrom, securityGiven}
 use Rattle.writing.specs.Theorems.{WellFormed}
-use Rattle.writing.specs.Writing.{layoutLength, startOf, tooLarge, writeRefusal}
+use Rattle.writing.specs.Writing.{layoutLength, startOf, writeRefusal}
 use Rattle.writing.proofs.Laws.Placed.{HeaderPlaced, section-placed}
 use Rattle.requests.specs.Defaults.{acknowledge, class, correlationOr, privacy, propertiesOf, senderOf, senderValues, titleOf}
 use Rattle.requests.specs.Request.{SendRequest}
 use Rattle.requests.specs.Section.{first, propertiesAt, propertiesFieldsOf, sectionLength, securityFieldsOf}
-use Rattle.requests.specs.Steps.{tooLarge as requestTooLarge}
+use Rattle.requests.specs.Steps.{tooLarge}
 use Rattle.requests.specs.declared.request.Correlation.{Correlation}
 use Rattle.requests.specs.declared.request.Correlation.the-variants.{Absent, Given}
 use Rattle.requests.proofs.Laws.Fits.{identityHead-pass, providerText-pass, securityLength-pass, securitySteps-pass}
@@ -67,7 +67,7 @@ wellFormed-by q id t a =
 
 header-placed : (q : SendRequest) (id : List ℕ) → ((i : ℕ) → getD (q .providerName) i 0 < 65536) → RequestPassed q
     → (b : Bool) → first q ≡ b → HeaderPlaced b (givenBy q id)
-unfolding givenBy tooLarge requestTooLarge securityFrom
+unfolding givenBy tooLarge securityFrom
 header-placed q id name a true e =
     let fields = securityGiven-by q id a in
     record {

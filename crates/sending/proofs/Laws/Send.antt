@@ -10,7 +10,7 @@ use lib.Seq.{length-take-le, take-at, take-length}
 use Rattle.octets.specs.Over.{over}
 use Rattle.octets.specs.Part.{within}
 use Rattle.octets.proofs.Laws.Part.{rest-drop, within-in}
-use Rattle.rules.specs.Output.{writerOutput}
+use Rattle.rules.specs.Output.{writerAnswer, writerOutput}
 use Rattle.rules.specs.declared.refusal.Checked.{Checked}
 use Rattle.rules.specs.declared.refusal.Checked.the-variants.{Passed, Refused}
 use Rattle.rules.specs.declared.section.Output.{Output}
@@ -116,7 +116,7 @@ Sent q id out = (writeAnswer (givenBy q id) out ≡ sendAnswer q out) × (writeB
 
 pub legal-sent : (q : SendRequest) (p : Properties) (id out : List ℕ) → ((i : ℕ) → getD (q .title) i 0 < 65536)
     → ((i : ℕ) → getD (q .providerName) i 0 < 65536) → Gets q p → Sent q id out
-unfolding writeAnswer writeBytes sendAnswer answerAfter sendBytes
+unfolding writeAnswer writeBytes writerAnswer sendAnswer answerAfter sendBytes
 legal-sent q p id out units name g =
     let placed = request-placed q id units name (g .legal) in
     let none = eq-eqb (writeRefusal (givenBy q id) .number) 0 (placed .passed) in

@@ -1,29 +1,28 @@
 -- The refusal and the output's length pick the case.
 use Prim.Native.Nat.{ℕ}
 use denote.Ref.{now}
-use mathlib.Core.Path.{_≡_, ap, _∙_}
+use mathlib.Core.Path.{_≡_, ap}
 use mathlib.Core.Bool.{Bool}
-use mathlib.Core.List.{List, _++_}
+use mathlib.Core.List.{List}
 use native.Mathlib.Omega.{arith}
 use borrow.Author.Tests.{le-ltb, lt-ltb}
-use lib.ListN.{drop, length}
+use lib.ListN.{length}
 use Rattle.octets.specs.Over.{over}
 use Rattle.octets.proofs.Laws.Steps.{the}
-use Rattle.rules.specs.Judged.{copyOf, judged}
+use Rattle.rules.specs.Judged.{copyOf}
+use Rattle.rules.specs.Output.{writerAnswer, writerOutput}
 use Rattle.rules.specs.Reading.{fieldsAt, judge, startAt, summaryAt}
 use Rattle.rules.specs.Refusal.{bytes}
-use Rattle.rules.specs.Support.{copyAnswer, copyBytes, supportAnswer, supportBytes}
+use Rattle.rules.specs.Support.{copyAnswer, copyOutput, supportAnswer, supportBytes}
 use Rattle.rules.specs.declared.section.Output.the-variants.{Written}
-use Rattle.rules.proofs.Laws.Accepted.{judge-passed, summarize-passed}
-use Rattle.rules.proofs.Laws.Judged.{judged-le, length-judged}
-use Rattle.rules.proofs.Laws.Masked.{length-masked-le}
+use Rattle.rules.proofs.Laws.Accepted.{summarize-passed}
 use Rattle.reading.proofs.Laws.Passed.{end-told, fields-told, none-told, refused-told, start-told}
 use borrow.Author.Needs.{needs}
 use Rattle.support.proofs.copy.support_copy.Statement.{statement}
 use Rattle.support.proofs.copy.support_copy.Tie as tie
 
 returns : tie.Need-returns
-unfolding supportAnswer supportBytes copyAnswer copyBytes
+unfolding supportAnswer supportBytes copyAnswer copyOutput
 returns c =
     let refused = refused-told _ _ (the tie.After-judge (search) .judge .ensures) (c .if1 .taken) in
     (rw refused, rw refused)
@@ -58,7 +57,7 @@ end c =
     (c .section-end .ensures)
 
 returns-2 : tie.Need-returns-2
-unfolding first input supportAnswer supportBytes copyAnswer copyBytes
+unfolding first input supportAnswer supportBytes copyAnswer copyOutput writerAnswer writerOutput
 returns-2 c =
     let size = end (search) in
     let out = now (the tie.Start (search) .args .out) in
@@ -78,18 +77,16 @@ copy-section-requires c κs =
     }
 
 returns-3 : tie.Need-returns-3
-unfolding first input supportAnswer supportBytes copyAnswer copyBytes copyOf over
+unfolding first input supportAnswer supportBytes copyAnswer copyOutput writerAnswer writerOutput copyOf over
 returns-3 c =
     let m = summaryAt (first (search)) (input (search)) in
     let s = input (search) in
     let out = now (the tie.Start (search) .args .out) in
     let size = end (search) in
     let e = summarize-passed (first (search)) s (none (search)) in
-    let room = le-ltb (length out) (m .parts .«section_length» .0) (omega arith) in
-    let a = judge-passed (first (search)) s .0 (none (search)) in
-    let whole = length-masked-le (judged m) s (judged-le (first (search)) s m a) ∙ length-judged (first (search)) s m a in (
+    let room = le-ltb (length out) (m .parts .«section_length» .0) (omega arith) in (
       rw (e, room) (ap (λ (n : ℕ). Written (bytes n)) size),
-      rw (e, room) (the tie.After-copy-section (search) .copy-section .ensures ∙ ap (λ (k : ℕ). copyOf m s ++ drop k out) whole),
+      rw (e, room) (the tie.After-copy-section (search) .copy-section .ensures),
     )
 
 pub support-copy-spec : {M : Type 1} → statement M

@@ -3,7 +3,6 @@ use Prim.Native.Nat.{ℕ, _+_, min}
 use denote.Ref.{now}
 use mathlib.Core.Path.{_≡_, sym, ap, subst, _∙_}
 use native.Mathlib.Omega.{arith}
-use borrow.Author.Tests.{eq-eqb, le-ltb, lt-ltb}
 use lib.ListN.{length}
 use Rattle.octets.specs.declared.count.Bytes.{Bytes}
 use Rattle.octets.proofs.Laws.Steps.{the}
@@ -14,6 +13,7 @@ use Rattle.rules.specs.declared.properties.PropertiesFields.{PropertiesFields}
 use Rattle.rules.specs.declared.refusal.Refusal.{Refusal}
 use Rattle.rules.specs.declared.section.Output.{Output}
 use Rattle.rules.specs.declared.section.Output.the-variants.{Written}
+use Rattle.rules.proofs.Laws.Output.{answer-short, answer-written}
 use Rattle.writing.specs.Given.{Given, held, securityGiven}
 use Rattle.writing.specs.Laid.{SectionLaid}
 use Rattle.writing.specs.Writing.{layoutLength, sectionBytes, startOf, writeAnswer, writeBytes, writeRefusal}
@@ -51,9 +51,8 @@ returns c =
     let start = the tie.Start (search) in
     let g = section start in
     let out = now (start .args .out) in
-    let none = eq-eqb (writeRefusal g .number) 0 (passed start) in
-    let short = lt-ltb (length out) (layoutLength g) (omega (arith, ended (search))) in
-    let answer : c .output-short .result ≡ writeAnswer g out = rw (none, short) (c .output-short .ensures) in
+    let short = answer-short (writeRefusal g) (layoutLength g) out (passed start) (omega (arith, ended (search))) in
+    let answer : c .output-short .result ≡ writeAnswer g out = c .output-short .ensures ∙ short in
     (answer, ap (λ (a : Output). writerOutput a (sectionBytes g) out) (sym (c .output-short .ensures) ∙ answer))
 
 write-headers-requires : tie.Need-write-headers-requires
@@ -72,10 +71,8 @@ returns-2 c =
     let a = start .args in
     let g = section start in
     let out = now (a .out) in
-    let none = eq-eqb (writeRefusal g .number) 0 (passed start) in
-    let room = le-ltb (length out) (layoutLength g) (omega (arith, ended end)) in
     let length : _≡_ {A = Bytes} (end .section-end .result) (bytes (layoutLength g)) = λ i. record { 0 = ended end i } in
-    let answer : Written (bytes (layoutLength g)) ≡ writeAnswer g out = rw (none, room) in (
+    let answer = answer-written (writeRefusal g) (layoutLength g) out (passed start) (omega (arith, ended end)) in (
       ap Written length ∙ answer,
       the tie.After-write-headers (search) .write-headers .ensures ∙ ap (λ (a : Output). writerOutput a (sectionBytes g) out) answer,
     )

@@ -1,14 +1,14 @@
 -- The refusal, or what follows where no step but 13 refuses.
 use denote.Ref.{now}
 use mathlib.Core.Path.{_≡_, sym, ap, _∙_}
-use borrow.Author.Tests.{ne-eqb}
 use Rattle.octets.proofs.Laws.Steps.{the}
 use Rattle.rules.specs.Output.{writerOutput}
 use Rattle.rules.specs.declared.refusal.Refusal.{Refusal}
 use Rattle.rules.specs.declared.section.Output.{Output}
 use Rattle.rules.specs.declared.section.Output.the-variants.{Refused}
+use Rattle.rules.proofs.Laws.Output.{answer-refused}
 use Rattle.writing.specs.Given.{Given, held}
-use Rattle.writing.specs.Writing.{sectionBytes, writeAnswer, writeBytes, writeRefusal}
+use Rattle.writing.specs.Writing.{layoutLength, sectionBytes, writeAnswer, writeBytes, writeRefusal}
 use borrow.Author.Needs.{needs}
 use Rattle.writing.proofs.section.write_section.Statement.{statement}
 use Rattle.writing.proofs.section.write_section.Tie as tie
@@ -26,8 +26,8 @@ returns c =
     let start = the tie.Start (search) in
     let g = section start in
     let out = now (start .args .out) in
-    let some = ne-eqb (writeRefusal g .number) 0 (λ e. c .if1 .taken (ap (λ (r : Refusal). r .number) (judged .ensures) ∙ e)) in
-    let answer : Refused (judged .result) ≡ writeAnswer g out = rw some (ap Refused (judged .ensures)) in
+    let some : ¬ (writeRefusal g .number ≡ 0) = λ e. c .if1 .taken (ap (λ (r : Refusal). r .number) (judged .ensures) ∙ e) in
+    let answer = ap Refused (judged .ensures) ∙ answer-refused (writeRefusal g) (layoutLength g) out some in
     (answer, ap (λ (a : Output). writerOutput a (sectionBytes g) out) answer)
 
 write-judged-requires : tie.Need-write-judged-requires

@@ -8,6 +8,7 @@ use octets::count::Bytes;
 use octets::over::copy;
 use rules::refusal;
 use rules::section::Output;
+use rules::section::output_short;
 ghost use mathlib.Core.Path.{_≡_};
 ghost use mathlib.Core.List.{[], _++_};
 ghost use Prim.Native.Nat.{_+_, _≤_};
@@ -60,7 +61,7 @@ pub fn write_image(format: QueueFormat, fixed: &[u8], text: &[u8], out: &mut [u8
     }
     let length = 4 + fixed.len() + text.len();
     if out.len() < length {
-        return Output::Refused(refusal_of(refusal::OUTPUT_SHORT));
+        return output_short();
     }
     put_image(format, fixed, text, out);
     Output::Written(Bytes(length))

@@ -4,9 +4,8 @@ use crate::line::Row;
 use crate::line::put_row;
 use crate::piece::put_word;
 use octets::count::Bytes;
-use rules::refusal;
-use rules::refusal::Refusal;
 use rules::section::Output;
+use rules::section::output_short;
 ghost use mathlib.Core.Path.{_≡_};
 ghost use Rattle.records.specs.Line.{appendAnswer, appendBytes};
 
@@ -17,12 +16,8 @@ pub fn append_line(row: Row, out: &mut [u8], used: Bytes) -> Output
     ensures { λ r. ⌜ r ≡ appendAnswer row (used .0) (now (out .entry)) ⌝ }
     ensures { λ _. ⌜ now (out .exit) ≡ appendBytes row (used .0) (now (out .entry)) ⌝ }
 {
-    let short = Refusal {
-        number: refusal::OUTPUT_SHORT,
-        place: Bytes(0),
-    };
     if out.len() < used.0 {
-        return Output::Refused(short);
+        return output_short();
     }
     let room = out.len() - used.0;
     if LINE_ROOM <= room {
@@ -31,7 +26,7 @@ pub fn append_line(row: Row, out: &mut [u8], used: Bytes) -> Output
     let mut text = [0u8; LINE_ROOM];
     let length = put_row(row, &mut text, Bytes(0)).0;
     if room < length {
-        return Output::Refused(short);
+        return output_short();
     }
     Output::Written(put_word(&text[..length], out, used))
 }

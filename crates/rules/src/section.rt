@@ -1,9 +1,12 @@
 // A section (01's term: an optional SecurityHeader and a MessagePropertiesHeader) as reading finds it.
 use crate::properties::PropertiesFields;
 use crate::properties::PropertiesParts;
+use crate::refusal;
 use crate::refusal::Refusal;
 use crate::security::SecurityHeader;
 use octets::count::Bytes;
+ghost use mathlib.Core.Path.{_≡_};
+ghost use Rattle.rules.specs.Refusal.{refusal};
 
 // 01: a section has at most so many bytes.
 pub const LIMIT: usize = 4194304;
@@ -51,4 +54,14 @@ pub enum Reading {
 pub enum Output {
     Written(Bytes),
     Refused(Refusal),
+}
+
+// 13
+pub fn output_short() -> Output
+    ensures { λ r. ⌜ r ≡ Output.Refused (refusal 13 0) ⌝ }
+{
+    Output::Refused(Refusal {
+        number: refusal::OUTPUT_SHORT,
+        place: Bytes(0),
+    })
 }

@@ -10,8 +10,8 @@ use reading::security::security_fields;
 use rules::properties::PropertiesFields;
 use rules::properties::section_end;
 use rules::refusal;
-use rules::refusal::Refusal;
 use rules::section::Output;
+use rules::section::output_short;
 ghost use mathlib.Core.Path.{_≡_};
 ghost use mathlib.Core.Bool.{cond};
 ghost use mathlib.Core.List.{[]};
@@ -71,10 +71,7 @@ pub fn support_copy(s: &[u8], security_first: bool, out: &mut [u8]) -> Output
     let properties = properties_fields(s, at);
     let end = section_end(properties, at);
     if out.len() < end.0 {
-        return Output::Refused(Refusal {
-            number: refusal::OUTPUT_SHORT,
-            place: Bytes(0),
-        });
+        return output_short();
     }
     copy_section(s, security_first, properties, at, end, out);
     Output::Written(end)

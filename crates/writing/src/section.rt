@@ -11,6 +11,7 @@ use rules::properties::section_end;
 use rules::refusal;
 use rules::refusal::Refusal;
 use rules::section::Output;
+use rules::section::output_short;
 use rules::security::SecurityFields;
 use rules::security::security_length;
 ghost use mathlib.Core.Path.{_≡_};
@@ -128,15 +129,6 @@ fn write_headers(
         body,
         &mut out[at..],
     );
-}
-
-fn output_short() -> Output
-    ensures { λ r. ⌜ r ≡ Output.Refused (refusal 13 0) ⌝ }
-{
-    Output::Refused(Refusal {
-        number: refusal::OUTPUT_SHORT,
-        place: Bytes(0),
-    })
 }
 
 // 13, and the section, where every step before has passed.

@@ -48,7 +48,7 @@ returns-2 c =
     let s = the tie.Start (search) in
     let l = length-image (s .args .format) (now (s .args .fixed)) (now (s .args .text)) in
     let end = ends-short (refusal (number s) 0) (image s) (now (s .args .out)) (passed (search)) (omega arith) in
-    (ap Refused (c .refusal-of2 .ensures) ∙ end .0, end .1)
+    (c .output-short .ensures ∙ end .0, end .1)
 
 returns-3 : tie.Need-returns-3
 unfolding number start

@@ -17,7 +17,9 @@ use Rattle.records.proofs.append.append_line.Statement.{statement}
 use Rattle.records.proofs.append.append_line.Tie as tie
 
 returns : tie.Need-returns
-returns c = let a = the tie.Start (search) .args in no-room (a .row) (a .used .0) (now (a .out)) (omega arith)
+returns c =
+    let a = the tie.Start (search) .args in
+    let short = no-room (a .row) (a .used .0) (now (a .out)) (omega arith) in (c .output-short .ensures ∙ short .0, short .1)
 
 returns-2 : tie.Need-returns-2
 returns-2 c =
@@ -29,7 +31,8 @@ returns-3 : tie.Need-returns-3
 returns-3 c =
     let a = the tie.Start (search) .args in
     let put = the tie.After-put-row2 (search) .put-row2 in
-    no-room (a .row) (a .used .0) (now (a .out)) (omega (arith, put .ensures .0))
+    let short = no-room (a .row) (a .used .0) (now (a .out)) (omega (arith, put .ensures .0)) in
+    (c .output-short2 .ensures ∙ short .0, short .1)
 
 slice-aggregate-put-word : tie.Need-slice-aggregate-put-word
 slice-aggregate-put-word c =
@@ -60,12 +63,14 @@ pub append-line-spec : {M : Type 1} → statement M
 append-line-spec =
     tie.close
     (tie.spec
+    (λ c κs. search needs)
     returns
     (λ c. search needs)
     (λ c κs. search needs)
     (λ c. search needs)
     returns-2
     (λ c. search needs)
+    (λ c κs. search needs)
     (λ c κs. search needs)
     returns-3
     (λ c. search needs)

@@ -63,7 +63,7 @@ returns-2 c =
     let out = now (the tie.Start (search) .args .out) in
     let short = lt-ltb (length out) (summaryAt (first (search)) (input (search)) .parts .«section_length» .0) (omega arith) in
     let e = summarize-passed (first (search)) (input (search)) (none (search)) in
-    (rw (e, short), rw (e, short))
+    (rw (e, short) (c .output-short .ensures), rw (e, short))
 
 copy-section-requires : tie.Need-copy-section-requires
 unfolding first input
@@ -95,6 +95,7 @@ support-copy-spec =
     (tie.spec
     (λ c κs. search needs)
     returns
+    (λ c κs. search needs)
     (λ c κs. search needs)
     (λ c κs. search needs)
     (λ c κs. search needs)

@@ -123,7 +123,13 @@ fn provider_size_fits(de: u32, signature: Bytes, size: Bytes) -> bool
 pub fn part_too_large(key: Bytes, signature: Bytes, certificate: Bytes) -> bool
     ensures { λ r. ⌜ r ≡ partTooLarge (key .0) (signature .0) (certificate .0) ⌝ }
 {
-    (65535 < key.0) | (65535 < signature.0) | (65535 < certificate.0)
+    if 65535 < key.0 {
+        return true;
+    }
+    if 65535 < signature.0 {
+        return true;
+    }
+    65535 < certificate.0
 }
 
 // S2 to S7

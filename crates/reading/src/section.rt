@@ -19,16 +19,16 @@ use rules::section::Summarized;
 use rules::section::Summary;
 use rules::security::SecurityHeader;
 use rules::security::security_length;
-use rules::verdict::authentication_fails;
-use rules::verdict::decryption_fails;
+use rules::verdict::Verdicts;
+use rules::verdict::verdicts_of;
 ghost use mathlib.Core.Path.{_≡_};
 ghost use Prim.Native.Nat.{_+_, _≤_};
 ghost use lib.ListN.{drop, length};
 ghost use Rattle.octets.specs.Number.{le};
-ghost use Rattle.rules.specs.Properties.{propertiesParts};
+ghost use Rattle.rules.specs.Properties.{propertiesFields, propertiesParts};
 ghost use Rattle.rules.specs.Reading.{headerAt, judge, read, securityNumber, startAt, summarize, summaryAt};
 ghost use Rattle.rules.specs.Refusal.{limit};
-ghost use Rattle.rules.specs.Summary.{sectionOf, summaryOf};
+ghost use Rattle.rules.specs.Summary.{sectionOf, summaryOf, verdictsOf};
 ghost use Rattle.reading.specs.Case.{readingCase};
 ghost use Rattle.reading.specs.Fields.{PropertiesSizes, startRead};
 
@@ -97,19 +97,20 @@ fn summary_of(
     security_first: bool,
     security: SecurityHeader,
     properties: PropertiesFields,
+    verdicts: Verdicts,
 ) -> Summary
+    requires { ⌜ verdicts ≡ verdictsOf (security .fields) properties ⌝ }
     requires { ⌜ PropertiesSizes properties ⌝ }
     requires { ⌜ security .parts .length .0 ≤ limit ⌝ }
     ensures { λ r. ⌜ r ≡ summaryOf «security_first» security properties (propertiesParts (security .parts .length .0) properties) ⌝ }
 {
-    let fields = security.fields;
     Summary {
         security_first,
         security,
         properties,
         parts: properties_parts(properties, security.parts.length),
-        authentication_fails: authentication_fails(fields, properties),
-        decryption_fails: decryption_fails(fields, properties),
+        authentication_fails: verdicts.authentication_fails,
+        decryption_fails: verdicts.decryption_fails,
     }
 }
 
@@ -123,16 +124,31 @@ fn application_tag(s: &[u8], at: Bytes) -> u32
     u32_in(h, Bytes(28))
 }
 
+// The verdicts on a section whose SecurityHeader was read. (By themselves, before the section is filled: they branch, and
+// what is filled between branches is not filled in place.)
+fn section_verdicts(s: &[u8], security: SecurityHeader) -> Verdicts
+    requires { ⌜ security .parts .length .0 + 56 ≤ length (now s) ⌝ }
+    ensures { λ r. ⌜ r ≡ verdictsOf (security .fields) (propertiesFields (drop (security .parts .length .0) (now (s .entry)))) ⌝ }
+{
+    verdicts_of(security.fields, fields_at(s, security.parts.length))
+}
+
 // The full reading of a section that passed every step, its SecurityHeader as it was read.
-fn section_of(s: &[u8], security_first: bool, security: SecurityHeader) -> Section
+fn section_of(
+    s: &[u8],
+    security_first: bool,
+    security: SecurityHeader,
+    verdicts: Verdicts,
+) -> Section
     requires { ⌜ judge «security_first» (now s) .number ≡ 0 ⌝ }
     requires { ⌜ security ≡ headerAt «security_first» (now s) ⌝ }
+    requires { ⌜ verdicts ≡ verdictsOf (security .fields) (propertiesFields (drop (security .parts .length .0) (now s))) ⌝ }
     ensures { λ r. ⌜ r ≡ sectionOf (summaryAt «security_first» (now (s .entry))) (now (s .entry)) ⌝ }
 {
     let at = security.parts.length;
     let properties = fields_at(s, at);
     Section {
-        summary: summary_of(security_first, security, properties),
+        summary: summary_of(security_first, security, properties, verdicts),
         correlation_id: part(Bytes(at.0 + 4), Bytes(20)),
         application_tag: application_tag(s, at),
     }
@@ -146,7 +162,8 @@ pub fn summarize(s: &[u8], security_first: bool) -> Summarized
     if refused.number != refusal::PASSED {
         return Summarized::Refused(refused);
     }
-    let section = section_of(s, security_first, header_at(s, security_first));
+    let header = header_at(s, security_first);
+    let section = section_of(s, security_first, header, section_verdicts(s, header));
     let summary = section.summary;
     Summarized::Accepted(summary)
 }
@@ -168,9 +185,13 @@ pub fn reading_case(s: &[u8], security_first: bool) -> ReadingCase
         return ReadingCase::Refused(refused);
     }
     if security_first {
-        return ReadingCase::WithSecurity(section_of(s, true, security_header(s)));
+        let header = security_header(s);
+        let verdicts = section_verdicts(s, header);
+        return ReadingCase::WithSecurity(section_of(s, true, header, verdicts));
     }
-    ReadingCase::WithoutSecurity(section_of(s, false, no_security()))
+    let header = no_security();
+    let verdicts = section_verdicts(s, header);
+    ReadingCase::WithoutSecurity(section_of(s, false, header, verdicts))
 }
 
 // The full reading: the summary, CorrelationID and ApplicationTag. Each part's bytes are had by `view::part_of`.

@@ -16,6 +16,7 @@ use Rattle.rules.specs.declared.security.SecurityFields.{SecurityFields}
 use Rattle.rules.specs.declared.security.SecurityHeader.{SecurityHeader}
 use Rattle.rules.specs.declared.properties.PropertiesFields.{PropertiesFields}
 use Rattle.rules.specs.declared.properties.PropertiesParts.{PropertiesParts}
+use Rattle.rules.specs.declared.verdict.Verdicts.{Verdicts}
 
 -- "PrivacyLevel is none of 0, 1, 3, 5, or a signature is present and HashAlgorithm is none of .."
 unfoldable pub authenticationFails : SecurityFields → PropertiesFields → Bool
@@ -26,6 +27,9 @@ authenticationFails s p =
 -- "EB is set and EncryptionAlgorithm is none of .."
 unfoldable pub decryptionFails : SecurityFields → PropertiesFields → Bool
 decryptionFails s p = eqb (EB s) 1 && not (listed encryptionAlgorithms (p .«encryption_algorithm»))
+
+unfoldable pub verdictsOf : SecurityFields → PropertiesFields → Verdicts
+verdictsOf s p = record { «authentication_fails» = authenticationFails s p; «decryption_fails» = decryptionFails s p }
 
 -- the bytes of a part
 abbrev pub partOf : List ℕ → Part → List ℕ

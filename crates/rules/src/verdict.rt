@@ -1,40 +1,50 @@
-// 01's two verdicts, which go with an acceptance and refuse nothing. (Without a branch, so that a summary is filled in
-// straight lines.)
+// 01's two verdicts, which go with an acceptance and refuse nothing.
 use crate::properties::PropertiesFields;
 use crate::security::EB;
 use crate::security::SecurityFields;
 ghost use mathlib.Core.Path.{_≡_};
 ghost use Rattle.rules.specs.Listed.{listed, privacyLevels, hashAlgorithms, encryptionAlgorithms};
-ghost use Rattle.rules.specs.Summary.{authenticationFails, decryptionFails};
+ghost use Rattle.rules.specs.Summary.{authenticationFails, decryptionFails, verdictsOf};
+
+pub struct Verdicts {
+    pub authentication_fails: bool,
+    pub decryption_fails: bool,
+}
 
 fn is_privacy_level(level: u32) -> bool
     ensures { λ r. ⌜ r ≡ listed privacyLevels level ⌝ }
 {
-    (level == 0) | (level == 1) | (level == 3) | (level == 5)
+    match level {
+        0..=1 => true,
+        3 => true,
+        5 => true,
+        _ => false,
+    }
 }
 
 fn is_hash_algorithm(algorithm: u32) -> bool
     ensures { λ r. ⌜ r ≡ listed hashAlgorithms algorithm ⌝ }
 {
-    (algorithm == 0x8001)
-        | (algorithm == 0x8002)
-        | (algorithm == 0x8003)
-        | (algorithm == 0x8004)
-        | (algorithm == 0x800C)
-        | (algorithm == 0x800E)
+    match algorithm {
+        0x8001..=0x8004 => true,
+        0x800C => true,
+        0x800E => true,
+        _ => false,
+    }
 }
 
 fn is_encryption_algorithm(algorithm: u32) -> bool
     ensures { λ r. ⌜ r ≡ listed encryptionAlgorithms algorithm ⌝ }
 {
-    (algorithm == 0x6602)
-        | (algorithm == 0x660E)
-        | (algorithm == 0x660F)
-        | (algorithm == 0x6610)
-        | (algorithm == 0x6801)
+    match algorithm {
+        0x6602 => true,
+        0x660E..=0x6610 => true,
+        0x6801 => true,
+        _ => false,
+    }
 }
 
-pub fn authentication_fails(security: SecurityFields, properties: PropertiesFields) -> bool
+fn authentication_fails(security: SecurityFields, properties: PropertiesFields) -> bool
     ensures { λ r. ⌜ r ≡ authenticationFails security properties ⌝ }
 {
     let signed = 0 < security.signature_size.0;
@@ -42,9 +52,18 @@ pub fn authentication_fails(security: SecurityFields, properties: PropertiesFiel
         | (signed & !is_hash_algorithm(properties.hash_algorithm))
 }
 
-pub fn decryption_fails(security: SecurityFields, properties: PropertiesFields) -> bool
+fn decryption_fails(security: SecurityFields, properties: PropertiesFields) -> bool
     ensures { λ r. ⌜ r ≡ decryptionFails security properties ⌝ }
 {
     let encrypted = security.flags / EB % 2 == 1;
     encrypted & !is_encryption_algorithm(properties.encryption_algorithm)
+}
+
+pub fn verdicts_of(security: SecurityFields, properties: PropertiesFields) -> Verdicts
+    ensures { λ r. ⌜ r ≡ verdictsOf security properties ⌝ }
+{
+    Verdicts {
+        authentication_fails: authentication_fails(security, properties),
+        decryption_fails: decryption_fails(security, properties),
+    }
 }

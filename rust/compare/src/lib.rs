@@ -2,13 +2,14 @@
 //! every input.
 //!
 //! [`side`] puts both behind one interface; [`sections`], [`writing`], [`queues`], [`requests`], [`listing`] and [`copies`] compare
-//! two sides on generated cases, [`sweeps`] and [`examples`] on fixed ones; [`properties`] says what has to hold of one
-//! side alone. Each takes its sides as arguments, so that a test can put a wrong one there.
+//! two sides on generated cases, [`classes`], [`sweeps`] and [`examples`] on fixed ones; [`properties`] says what has to
+//! hold of one side alone. Each takes its sides as arguments, so that a test can put a wrong one there.
 
 #![forbid(unsafe_code)]
 #![warn(missing_docs)]
 
 pub mod bits;
+pub mod classes;
 pub mod copies;
 pub mod examples;
 pub mod lend;

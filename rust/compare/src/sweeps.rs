@@ -1,5 +1,5 @@
-//! Fixed sweeps: every class, security Flags, hash and encryption number of 16 bits; a section cut at every byte and
-//! flipped at every bit.
+//! Fixed sweeps: every security Flags, hash and encryption number of 16 bits; a section cut at every byte and flipped at
+//! every bit.
 
 use std::ops::RangeInclusive;
 
@@ -13,8 +13,7 @@ use crate::side::Sides;
 /// Every number of 16 bits.
 const ALL: RangeInclusive<u16> = 0..=u16::MAX;
 
-/// Where MessageClass, HashAlgorithm and EncryptionAlgorithm stand in a MessagePropertiesHeader.
-const CLASS: usize = 2;
+/// Where HashAlgorithm and EncryptionAlgorithm stand in a MessagePropertiesHeader.
 const HASH: usize = 44;
 const ENCRYPTION: usize = 48;
 
@@ -23,17 +22,12 @@ pub fn run(sides: Sides<'_>, r: &mut Random) -> Tally {
     let mut tally = Tally::new("sweeps");
     let whole = whole_section();
     let at = whole.len() - properties_length();
-    for (mut input, offset) in [
-        (vec![0; 56], CLASS),
-        (key_only(), 0),
-        (whole.clone(), 0),
-        (whole.clone(), at + HASH),
-        (whole.clone(), at + ENCRYPTION),
-    ] {
-        let security_first = input.len() > 56;
+    for (mut input, offset) in
+        [(key_only(), 0), (whole.clone(), 0), (whole.clone(), at + HASH), (whole.clone(), at + ENCRYPTION)]
+    {
         for number in ALL {
             input[offset..offset + 2].copy_from_slice(&number.to_le_bytes());
-            add(&mut tally, sides, &input, security_first, r);
+            add(&mut tally, sides, &input, true, r);
         }
     }
     cut_and_flip(&mut tally, sides, &whole, r);

@@ -7,7 +7,7 @@ use compare::report::Tally;
 use compare::second::{defaulted, reading, sent, summary, Independent};
 use compare::side::{Answer, Defaulted, Image, Line, Next, Reading, Record, Records, Request};
 use compare::side::{SectionValues, Sent, Side, Sides, Source, Summary};
-use compare::{examples, listing, properties, queues, requests, sections, sweeps, writing};
+use compare::{classes, examples, listing, properties, queues, requests, sections, sweeps, writing};
 use independent::generate::Random;
 use independent::neighbours::{List, Neighbours};
 use independent::planted;
@@ -20,6 +20,8 @@ const CASES: u64 = 8_000;
 enum Fault {
     /// The extension is padded before the body.
     Read,
+    /// A class that is not listed is let through.
+    Class(u16),
     /// Private bits count.
     SameSummary,
     /// A label of one unit is taken for none.
@@ -81,6 +83,9 @@ impl Side for Planted {
     fn read<'a>(&self, input: &'a [u8], security_first: bool) -> Answer<Reading<'a>> {
         match self.0 {
             Fault::Read => planted::read(input, security_first).map(|section| reading(&section, input)),
+            Fault::Class(extra) => {
+                planted::read_class(extra, input, security_first).map(|section| reading(&section, input))
+            }
             Fault::Exchanged(List::Reading, pair) => planted::read_exchanged(pair.at, input, security_first)
                 .map(|section| reading(&section, input)),
             _ => Independent.read(input, security_first),
@@ -224,6 +229,12 @@ fn sections_read_and_copied() {
         let [sections, _] = sections::run(sides, CASES, &mut Random::new(1));
         sections
     });
+}
+
+#[test]
+fn every_class() {
+    let gaps = [0x8008, 0xC003, 0x4001].map(Fault::Class);
+    finds(&gaps, |sides| classes::run(sides, &mut Random::new(11)));
 }
 
 #[test]

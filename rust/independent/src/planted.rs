@@ -29,6 +29,17 @@ pub fn read(input: &[u8], security_first: bool) -> Result<Section<'_>, Refusal> 
     Ok(section)
 }
 
+/// Reads with one class let through that 01 does not list.
+pub fn read_class(extra: u16, input: &[u8], security_first: bool) -> Result<Section<'_>, Refusal> {
+    match crate::read(input, security_first) {
+        Err(Refusal { number: number::CLASS, place }) if input[place + 2..][..2] == extra.to_le_bytes() => {
+            let others: Vec<_> = READING.into_iter().filter(|step| step.answer != number::CLASS).collect();
+            read_by(&others, input, security_first, ENDLESS)
+        }
+        answer => answer,
+    }
+}
+
 /// Copies the X bits of the properties Flags too, which are private.
 pub fn support_copy(input: &[u8], security_first: bool, out: &mut [u8]) -> Result<usize, Refusal> {
     let length = crate::support_copy(input, security_first, out)?;

@@ -64,6 +64,19 @@ accepted first s e =
       fields = properties-read s p (a .properties .fixed);
     }
 
+-- the MessagePropertiesHeader behind a header that was read: within the limit, its fixed bytes there
+pub record Behind (h : SecurityHeader) (first : Bool) (s : List ℕ) : Type 0 where
+  pub start : h .parts .length .0 ≡ startAt first s
+  pub small : h .parts .length .0 ≤ limit
+  pub fixed : h .parts .length .0 + 56 ≤ length s
+
+pub behind : (h : SecurityHeader) (first : Bool) (s : List ℕ) → judge first s .number ≡ 0 → h ≡ headerAt first s → Behind h first s
+unfolding startAt
+behind h first s e q =
+    let p = accepted first s e in
+    let start : h .parts .length .0 ≡ startAt first s = ap (λ (h : SecurityHeader). h .parts .length .0) q in
+    record { start = start; small = omega (arith, start, p .start .small); fixed = omega (arith, start, p .fixed) }
+
 -- S7: provider info, if any, holds its type
 provider-le : (de signature n : ℕ) → providerSize de signature n ≡ true → ¬ (n ≡ 0) → 4 ≤ n
 unfolding providerSize

@@ -1,5 +1,5 @@
 -- What a legal request has passed, step by step, and the bounds that follow.
-use Prim.Native.Nat.{ℕ, _+_, _≤_, _<_}
+use Prim.Native.Nat.{ℕ, _≤_, _<_}
 use mathlib.Core.Path.{_≡_, refl, sym, _∙_}
 use mathlib.Core.Bool.{Bool, true, false, not, _||_, cond, true≢false}
 use mathlib.Core.List.{List, [], _∷_}
@@ -13,7 +13,7 @@ use Rattle.rules.specs.Security.{identityHead, identitySize}
 use Rattle.rules.specs.declared.refusal.Checked.the-variants.{Passed, Refused}
 use Rattle.rules.specs.declared.refusal.Refusal.{Refusal}
 use Rattle.rules.proofs.Laws.Accepted.{neither}
-use Rattle.rules.proofs.Laws.Listed.{listed-out}
+use Rattle.rules.proofs.Laws.Listed.{no-class}
 use Rattle.requests.specs.Defaults.{acknowledge, allocation, auditing, bodyOf, class, deliveryGiven, kind, priority, privacy, signatureOf, trace}
 use Rattle.requests.specs.Request.{SendRequest}
 use Rattle.requests.specs.Section.{packetPrivacy, sectionLength}
@@ -77,13 +77,11 @@ acknowledge-small q a =
 
 -- every listed class fits two bytes
 pub class-small : (c : ℕ) → listed classes c ≡ true → c < 65536
-unfolding classes
 class-small c e = go (ltb c 65536) refl
   where
     go : (b : Bool) → ltb c 65536 ≡ b → c < 65536
     go true f = ltb-true c 65536 f
-    go false f =
-        absurd (true≢false (sym e ∙ listed-out classes 65536 (1 + c) c refl (ltb-false c 65536 f) (omega arith)))
+    go false f = absurd (true≢false (sym e ∙ sym (no-class c (ltb-false c 65536 f))))
 
 -- 3
 pub record Identity (q : SendRequest) : Type 0 where

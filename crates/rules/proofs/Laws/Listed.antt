@@ -1,23 +1,29 @@
--- A list of numbers, decided by ranges: a test that computes over the whole list, and a law that turns it into the answer at each number.
-use Prim.Native.Nat.{ℕ, zero, suc, _+_, _≤_, _<_}
-use mathlib.Core.Path.{_≡_, refl, sym, subst}
-use mathlib.Core.Bool.{Bool, true, false, _&&_, _||_}
+-- A list of numbers, decided by a `match` on single numbers (its keys) and ranges. A return of the `match` knows its keys or its bounds; a
+-- test that computes over the list alone (`holds`, `lacks`) turns these into what the list says of every number there.
+use Prim.Native.Nat.{ℕ, suc, _≤_, _<_}
+use mathlib.Core.Path.{_≡_, refl, sym, _∙_}
+use mathlib.Core.Bool.{Bool, true, false, _&&_, _||_, cond, true≢false}
 use mathlib.Core.List.{List, [], _∷_}
 use native.Mathlib.Omega.{arith}
 use borrow.Author.Tests.{ltb-true, leb-true, ne-eqb, eqb-true, eqb-false}
 use lib.Arith.{lt-of-le-ne}
 use lib.Dec.{eqb, ltb, leb}
-use Rattle.rules.specs.Listed.{listed}
+use Rattle.rules.specs.Listed.{listed, classes}
 
--- each of n numbers from lo is listed
-abbrev pub allListed : List ℕ → ℕ → ℕ → Bool
-allListed xs lo zero = true
-allListed xs lo (suc n) = listed xs lo && allListed xs (suc lo) n
+-- the list, passed through once, holds lo, lo + 1, .. up to, not including, hi
+abbrev pub holds : List ℕ → ℕ → ℕ → Bool
+holds [] lo hi = leb hi lo
+holds (x ∷ xs) lo hi = cond (eqb x lo) (holds xs (suc lo) hi) (holds xs lo hi)
 
--- no listed number lies from lo up to, not including, hi
-abbrev pub noneListed : List ℕ → ℕ → ℕ → Bool
-noneListed [] lo hi = true
-noneListed (x ∷ xs) lo hi = (ltb x lo || leb hi x) && noneListed xs lo hi
+-- each listed number is one of the keys, or below lo, or hi or above
+abbrev pub lacks : List ℕ → List ℕ → ℕ → ℕ → Bool
+lacks [] keys lo hi = true
+lacks (x ∷ xs) keys lo hi = (holds keys x (suc x) || (ltb x lo || leb hi x)) && lacks xs keys lo hi
+
+-- what the last arm of a `match` knows of the keys before it, the last one first
+abbrev pub NoKey : List ℕ → ℕ → Type 0
+NoKey [] c = Unit
+NoKey (k ∷ ks) c = NoKey ks c × (c ≡ k → ⊥)
 
 and-left : (a b : Bool) → a && b ≡ true → a ≡ true
 and-left true b e = refl
@@ -28,33 +34,62 @@ and-right true b e = e
 and-right false true e = refl
 and-right false false e = e
 
-pub or-assoc : (a b c : Bool) → ((a || b) || c) ≡ (a || (b || c))
-or-assoc true b c = refl
-or-assoc false b c = refl
-
-pub or-false : (a : Bool) → (a || false) ≡ a
-or-false true = refl
-or-false false = refl
-
-pub listed-in : (xs : List ℕ) (lo n c : ℕ) → allListed xs lo n ≡ true → lo ≤ c → c < lo + n → listed xs c ≡ true
-listed-in xs lo zero c t h k = absurd (omega arith)
-listed-in xs lo (suc n) c t h k =
-    go (eqb c lo) refl (λ l. listed-in xs (suc lo) n c (and-right (listed xs lo) _ t) l (omega arith))
+-- one number of the list: it is lo, or the rest of the list holds what it held
+next : (x lo c : ℕ) (after same rest : Bool) → (suc lo ≤ c → after ≡ true → rest ≡ true) → (same ≡ true → rest ≡ true) →
+    lo ≤ c → cond (eqb x lo) after same ≡ true → eqb c x || rest ≡ true
+next x lo c after same rest past stay h t = at (eqb c x) refl (eqb x lo) refl t
   where
-    go : (b : Bool) → eqb c lo ≡ b → (suc lo ≤ c → listed xs c ≡ true) → listed xs c ≡ true
-    go true e next = subst (λ (x : ℕ). listed xs x ≡ true) (sym (eqb-true c lo e)) (and-left (listed xs lo) _ t)
-    go false e next = next (lt-of-le-ne h (λ q. eqb-false c lo e (sym q)))
+    at : (b : Bool) → eqb c x ≡ b → (d : Bool) → eqb x lo ≡ d → cond d after same ≡ true → b || rest ≡ true
+    at true e d f u = refl
+    at false e true f u = past (lt-of-le-ne h (λ p. eqb-false c x e (sym p ∙ sym (eqb-true x lo f)))) u
+    at false e false f u = stay u
 
-outside : (x lo hi c : ℕ) → ltb x lo || leb hi x ≡ true → lo ≤ c → c < hi → c ≡ x → ⊥
-outside x lo hi c t h k e = go (ltb x lo) refl
-  where
-    go : (b : Bool) → ltb x lo ≡ b → ⊥
-    go true f = omega (arith, ltb-true x lo f)
-    go false f = omega (arith, leb-true hi x (subst (λ (b : Bool). b || leb hi x ≡ true) f t))
-
-pub listed-out : (xs : List ℕ) (lo hi c : ℕ) → noneListed xs lo hi ≡ true → lo ≤ c → c < hi → listed xs c ≡ false
+held : (xs : List ℕ) (lo hi c : ℕ) → holds xs lo hi ≡ true → lo ≤ c → c < hi → listed xs c ≡ true
 unfolding listed
-listed-out [] lo hi c t h k = refl
-listed-out (x ∷ xs) lo hi c t h k =
-    rw (ne-eqb c x (outside x lo hi c (and-left (ltb x lo || leb hi x) _ t) h k))
-    (listed-out xs lo hi c (and-right (ltb x lo || leb hi x) _ t) h k)
+held [] lo hi c t h k = absurd (omega (arith, leb-true hi lo t))
+held (x ∷ xs) lo hi c t h k =
+    next x lo c (holds xs (suc lo) hi) (holds xs lo hi) (listed xs c)
+    (λ l u. held xs (suc lo) hi c u l k)
+    (λ u. held xs lo hi c u h k)
+    h t
+
+no-key : (keys : List ℕ) (c : ℕ) → NoKey keys c → listed keys c ≡ false
+unfolding listed
+no-key [] c n = refl
+no-key (k ∷ ks) c n = rw (ne-eqb c k (n .1)) (no-key ks c (n .0))
+
+-- c is not x, where x is a key or lies outside, and c does neither
+other : (x : ℕ) (keys : List ℕ) (lo hi c : ℕ) → holds keys x (suc x) || (ltb x lo || leb hi x) ≡ true →
+    NoKey keys c → lo ≤ c → c < hi → c ≡ x → ⊥
+other x keys lo hi c t n h k e = key (holds keys x (suc x)) refl t
+  where
+    outside : (b : Bool) → ltb x lo ≡ b → b || leb hi x ≡ true → ⊥
+    outside true f u = omega (arith, ltb-true x lo f)
+    outside false f u = omega (arith, leb-true hi x u)
+
+    key : (b : Bool) → holds keys x (suc x) ≡ b → b || (ltb x lo || leb hi x) ≡ true → ⊥
+    key true f u = true≢false (sym (held keys x (suc x) c f (omega (arith, e)) (omega (arith, e))) ∙ no-key keys c n)
+    key false f u = outside (ltb x lo) refl u
+
+lacking : (xs keys : List ℕ) (lo hi c : ℕ) → lacks xs keys lo hi ≡ true → NoKey keys c → lo ≤ c → c < hi → listed xs c ≡ false
+unfolding listed
+lacking [] keys lo hi c t n h k = refl
+lacking (x ∷ xs) keys lo hi c t n h k =
+    let out = holds keys x (suc x) || (ltb x lo || leb hi x) in
+    rw (ne-eqb c x (other x keys lo hi c (and-left out (lacks xs keys lo hi) t) n h k))
+    (lacking xs keys lo hi c (and-right out (lacks xs keys lo hi) t) n h k)
+
+-- the returns of a `match`: an arm's range, an arm's key, what no arm has
+pub in-range : (xs : List ℕ) (lo hi c : ℕ) → holds xs lo hi ≡ true → lo ≤ c → c < hi → true ≡ listed xs c
+in-range xs lo hi c t h k = sym (held xs lo hi c t h k)
+
+pub is-key : (xs : List ℕ) (key c : ℕ) → c ≡ key → holds xs key (suc key) ≡ true → true ≡ listed xs c
+is-key xs key c e t = in-range xs key (suc key) c t (omega (arith, e)) (omega (arith, e))
+
+pub in-gap : (xs keys : List ℕ) (lo hi c : ℕ) → lacks xs keys lo hi ≡ true → NoKey keys c → lo ≤ c → c < hi → false ≡ listed xs c
+in-gap xs keys lo hi c t n h k = sym (lacking xs keys lo hi c t n h k)
+
+-- every class fits two bytes
+pub no-class : (c : ℕ) → 65536 ≤ c → false ≡ listed classes c
+unfolding classes
+no-class c h = in-gap classes [] 65536 (suc c) c refl tt h (omega arith)

@@ -9,6 +9,7 @@ use Rattle.rules.specs.Reading.{fullReading, headerAt, judge, read}
 use Rattle.rules.proofs.Laws.Accepted.{summarize-passed}
 use Rattle.reading.specs.Case.{readingCase}
 use Rattle.reading.specs.declared.section.ReadingCase.the-variants.{WithSecurity, WithoutSecurity}
+use Rattle.reading.proofs.Laws.Fields.{behind}
 use Rattle.reading.proofs.Laws.Passed.{none-told, refused-told}
 use borrow.Author.Needs.{needs}
 use Rattle.reading.proofs.section.reading_case.Statement.{statement}
@@ -36,9 +37,14 @@ security-header-requires : tie.Need-security-header-requires
 unfolding input
 security-header-requires c κs = secured (search)
 
+section-verdicts-requires : tie.Need-section-verdicts-requires
+unfolding input
+section-verdicts-requires c κs = behind _ _ _ (secured (search)) (c .security-header .ensures) .fixed
+
 section-of-requires : tie.Need-section-of-requires
 unfolding input
-section-of-requires c κs = (secured (search), c .security-header .ensures)
+section-of-requires c κs =
+    (secured (search), (the tie.After-security-header (search) .security-header .ensures, c .section-verdicts .ensures))
 
 returns-2 : tie.Need-returns-2
 unfolding input first readingCase read fullReading
@@ -51,9 +57,13 @@ plain : (c : tie.Else2) → judge false (input (c .before)) .number ≡ 0
 unfolding first
 plain c = subst (λ (b : Bool). judge b (input (c .before)) .number ≡ 0) (c .if2 .left) (none (c .before))
 
+section-verdicts-requires-2 : tie.Need-section-verdicts-requires-2
+unfolding input headerAt
+section-verdicts-requires-2 c κs = behind _ false _ (plain (search)) (c .no-security .ensures) .fixed
+
 section-of-requires-2 : tie.Need-section-of-requires-2
 unfolding input headerAt
-section-of-requires-2 c κs = (plain (search), c .no-security .ensures)
+section-of-requires-2 c κs = (plain (search), (the tie.After-no-security (search) .no-security .ensures, c .section-verdicts2 .ensures))
 
 returns-3 : tie.Need-returns-3
 unfolding input first readingCase read fullReading
@@ -69,8 +79,10 @@ reading-case-spec =
     (λ c κs. search needs)
     returns
     security-header-requires
+    section-verdicts-requires
     section-of-requires
     returns-2
     (λ c κs. search needs)
+    section-verdicts-requires-2
     section-of-requires-2
     returns-3)

@@ -7,6 +7,7 @@ use Rattle.rules.specs.Summary.{sectionOf}
 use Rattle.rules.specs.declared.section.Section.{Section}
 use Rattle.rules.specs.declared.section.Summarized.the-variants.{Accepted}
 use Rattle.rules.proofs.Laws.Accepted.{summarize-passed}
+use Rattle.reading.proofs.Laws.Fields.{behind}
 use Rattle.reading.proofs.Laws.Passed.{none-told, refused-told}
 use borrow.Author.Needs.{needs}
 use Rattle.reading.proofs.section.summarize.Statement.{statement}
@@ -21,8 +22,11 @@ none c = none-told _ _ (the tie.After-judge (search) .judge .ensures) (c .if1 .l
 header-at-requires : tie.Need-header-at-requires
 header-at-requires c κs = none (search)
 
+section-verdicts-requires : tie.Need-section-verdicts-requires
+section-verdicts-requires c κs = behind _ _ _ (none (search)) (c .header-at .ensures) .fixed
+
 section-of-requires : tie.Need-section-of-requires
-section-of-requires c κs = (none (search), c .header-at .ensures)
+section-of-requires c κs = (none (search), (the tie.After-header-at (search) .header-at .ensures, c .section-verdicts .ensures))
 
 returns-2 : tie.Need-returns-2
 unfolding sectionOf
@@ -38,5 +42,6 @@ summarize-spec =
     (λ c κs. search needs)
     returns
     header-at-requires
+    section-verdicts-requires
     section-of-requires
     returns-2)

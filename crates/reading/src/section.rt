@@ -125,7 +125,7 @@ fn application_tag(s: &[u8], at: Bytes) -> u32
 }
 
 // The verdicts on a section whose SecurityHeader was read. (By themselves, before the section is filled: they branch, and
-// what is filled between branches is not filled in place.)
+// with branches in it the filling becomes a function of its own, whose answer is moved.)
 fn section_verdicts(s: &[u8], security: SecurityHeader) -> Verdicts
     requires { ⌜ security .parts .length .0 + 56 ≤ length (now s) ⌝ }
     ensures { λ r. ⌜ r ≡ verdictsOf (security .fields) (propertiesFields (drop (security .parts .length .0) (now (s .entry)))) ⌝ }

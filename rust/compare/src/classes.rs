@@ -18,32 +18,33 @@ const LISTED: [u16; 19] = [
     0x800A, 0x800B, 0xC000, 0xC001, 0xC002, 0xC004,
 ];
 /// A class that 01 does not list.
-const UNLISTED: Answer<usize> = Err(Refusal { number: number::CLASS, place: 0 });
+const UNLISTED: Refusal = Refusal { number: number::CLASS, place: 0 };
 
 /// Compares both sides at every class.
 pub fn run(sides: Sides<'_>, r: &mut Random) -> Tally {
     let mut tally = Tally::new("classes");
     for class in 0..=u16::MAX {
-        let wanted = if LISTED.contains(&class) { Ok(PLAIN) } else { UNLISTED };
-        tally.add(&wanted, compare(sides, class, wanted, r), || format!("class {class:#06x}"));
+        let mut section = [0; PLAIN];
+        section[CLASS..CLASS + 2].copy_from_slice(&class.to_le_bytes());
+        let answer = sides.one.summarize(&section, false).map(|summary| summary.length);
+        let check = compare(sides, class, &section, &answer, r);
+        tally.add(&answer, check, || format!("class {class:#06x}"));
     }
     tally
 }
 
-fn compare(sides: Sides<'_>, class: u16, wanted: Answer<usize>, r: &mut Random) -> Check {
-    let mut section = [0; PLAIN];
-    section[CLASS..CLASS + 2].copy_from_slice(&class.to_le_bytes());
-    sections::compare(sides, &section, false, r)?;
-    let length = sides.one.summarize(&section, false).map(|summary| summary.length);
-    agree("the class read", &length, &wanted)?;
+fn compare(sides: Sides<'_>, class: u16, section: &[u8], read: &Answer<usize>, r: &mut Random) -> Check {
+    let wanted = if LISTED.contains(&class) { Ok(section) } else { Err(UNLISTED) };
+    agree("the class read", read, &wanted.map(<[u8]>::len))?;
+    sections::compare(sides, section, false, r)?;
     let values = SectionValues { message_class: class, ..SectionValues::default() };
     let written =
         sides.both("the class written", |side| lend(PLAIN, |out| side.write_section(&values, out)))?;
-    agree("the class written", &written.answer, &wanted)?;
-    for (class, wanted) in [(u32::from(class), wanted), (0x1_0000 + u32::from(class), UNLISTED)] {
+    written.is("the class written", &wanted)?;
+    for (class, wanted) in [(u32::from(class), wanted), (0x1_0000 + u32::from(class), Err(UNLISTED))] {
         let request = Request { class: Some(class), ..Request::default() };
         let sent = |side: &dyn Side| lend(PLAIN, |out| side.send(&request, out).map(|sent| sent.length));
-        agree("the class sent", &sides.both("the class sent", sent)?.answer, &wanted)?;
+        sides.both("the class sent", sent)?.is("the class sent", &wanted)?;
     }
     Ok(())
 }

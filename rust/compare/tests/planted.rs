@@ -20,8 +20,10 @@ const CASES: u64 = 8_000;
 enum Fault {
     /// The extension is padded before the body.
     Read,
-    /// A class that is not listed is let through.
-    Class(u16),
+    /// A class that is not listed is let through where it is read, written or sent.
+    ClassRead(u16),
+    ClassWritten(u16),
+    ClassSent(u16),
     /// Private bits count.
     SameSummary,
     /// A label of one unit is taken for none.
@@ -83,7 +85,7 @@ impl Side for Planted {
     fn read<'a>(&self, input: &'a [u8], security_first: bool) -> Answer<Reading<'a>> {
         match self.0 {
             Fault::Read => planted::read(input, security_first).map(|section| reading(&section, input)),
-            Fault::Class(extra) => {
+            Fault::ClassRead(extra) => {
                 planted::read_class(extra, input, security_first).map(|section| reading(&section, input))
             }
             Fault::Exchanged(List::Reading, pair) => planted::read_exchanged(pair.at, input, security_first)
@@ -94,7 +96,7 @@ impl Side for Planted {
     fn summarize<'a>(&self, input: &'a [u8], security_first: bool) -> Answer<Summary<'a>> {
         match self.0 {
             Fault::Read => planted::read(input, security_first).map(|section| summary(&section)),
-            Fault::Exchanged(List::Reading, _) => {
+            Fault::Exchanged(List::Reading, _) | Fault::ClassRead(_) => {
                 self.read(input, security_first).map(|reading| reading.summary)
             }
             _ => Independent.summarize(input, security_first),
@@ -122,6 +124,7 @@ impl Side for Planted {
     fn write_section(&self, values: &SectionValues<'_>, out: &mut [u8]) -> Answer<usize> {
         let answer = match self.0 {
             Fault::WriteSection => planted::write_section(values, out),
+            Fault::ClassWritten(extra) => planted::write_class(extra, values, out),
             Fault::Exchanged(List::Writing, pair) => planted::write_exchanged(pair.at, values, out),
             _ => Independent.write_section(values, out),
         };
@@ -160,10 +163,14 @@ impl Side for Planted {
     fn send(&self, request: &Request<'_>, out: &mut [u8]) -> Answer<Sent> {
         let length = match self.0 {
             Fault::Send => planted::send(request, out),
+            Fault::ClassSent(extra) => planted::send_class(extra, request, out),
             Fault::Exchanged(List::Sending, pair) => planted::send_exchanged(pair.at, request, out),
             _ => independent::request::send(request, out),
         };
-        let answer = sent(request, self.written(length, out))?;
+        let class = request
+            .class
+            .filter(|&class| !matches!(self.0, Fault::ClassSent(extra) if class == extra.into()));
+        let answer = sent(&Request { class, ..*request }, self.written(length, out))?;
         Ok(if self.0 == Fault::SentFirst { Sent { security_first: false, ..answer } } else { answer })
     }
     fn next_record<'a>(&self, rest: &'a [u8]) -> Next<'a> {
@@ -233,8 +240,9 @@ fn sections_read_and_copied() {
 
 #[test]
 fn every_class() {
-    let gaps = [0x8008, 0xC003, 0x4001].map(Fault::Class);
-    finds(&gaps, |sides| classes::run(sides, &mut Random::new(11)));
+    let gaps = [0x8008, 0xC003, 0x4001];
+    let faults = [gaps.map(Fault::ClassRead), gaps.map(Fault::ClassWritten), gaps.map(Fault::ClassSent)];
+    finds(&faults.concat(), |sides| classes::run(sides, &mut Random::new(11)));
 }
 
 #[test]
@@ -296,7 +304,11 @@ fn the_same_fault_on_both_sides() {
     let writing: Run = |sides| writing::run(sides, CASES, &mut Random::new(9));
     let reading_images: Run = |sides| queues::run_reading(sides, CASES, &mut Random::new(9));
     let requests: Run = |sides| requests::run(sides, CASES, &mut Random::new(9));
+    let classes: Run = |sides| classes::run(sides, &mut Random::new(9));
     for (fault, run) in [
+        (Fault::ClassRead(0x8008), classes),
+        (Fault::ClassWritten(0xC003), classes),
+        (Fault::ClassSent(0x4001), classes),
         (Fault::Read, sections),
         (Fault::SameSummary, sections),
         (Fault::Refusal, sections),

@@ -8,7 +8,7 @@ use crate::bytes::padded;
 use crate::copies::{self, Copies};
 use crate::copy::support_copy_by;
 use crate::listing::{self, Answer, Line, RECORD};
-use crate::order::exchanged;
+use crate::order::{exchanged, Step};
 use crate::queue::{self, Image};
 use crate::read::read_by;
 use crate::request::{self, Request, SENDING};
@@ -29,15 +29,41 @@ pub fn read(input: &[u8], security_first: bool) -> Result<Section<'_>, Refusal> 
     Ok(section)
 }
 
-/// Reads with one class let through that 01 does not list.
+/// Reads with the class `extra` let through, which 01 does not list; so do the next two.
 pub fn read_class(extra: u16, input: &[u8], security_first: bool) -> Result<Section<'_>, Refusal> {
     match crate::read(input, security_first) {
         Err(Refusal { number: number::CLASS, place }) if input[place + 2..][..2] == extra.to_le_bytes() => {
-            let others: Vec<_> = READING.into_iter().filter(|step| step.answer != number::CLASS).collect();
-            read_by(&others, input, security_first, ENDLESS)
+            read_by(&without_class(&READING), input, security_first, ENDLESS)
         }
         answer => answer,
     }
+}
+
+/// Writes a section with one class more.
+pub fn write_class(extra: u16, values: &SectionValues<'_>, out: &mut [u8]) -> Result<usize, Refusal> {
+    if values.message_class == extra {
+        write_by(&without_class(&WRITING), values, out)
+    } else {
+        crate::write_section(values, out)
+    }
+}
+
+/// Sends a request with one class more.
+pub fn send_class(extra: u16, request: &Request<'_>, out: &mut [u8]) -> Result<usize, Refusal> {
+    if request.class != Some(extra.into()) {
+        return request::send(request, out);
+    }
+    let listed = Request { class: None, ..*request };
+    let properties = request::defaulted(&listed)?;
+    let length = request::send(&listed, out)?;
+    let at = properties_at(&out[..length], properties.security_first());
+    out[at + 2..at + 4].copy_from_slice(&extra.to_le_bytes());
+    Ok(length)
+}
+
+/// The list without the step for the class.
+fn without_class<T: Copy>(order: &[Step<T, u32>]) -> Vec<Step<T, u32>> {
+    order.iter().filter(|step| step.answer != number::CLASS).copied().collect()
 }
 
 /// Copies the X bits of the properties Flags too, which are private.

@@ -2,7 +2,7 @@
 -- test that computes over the list alone (`holds`, `lacks`) turns these into what the list says of every number there.
 use Prim.Native.Nat.{ℕ, suc, _≤_, _<_}
 use mathlib.Core.Path.{_≡_, refl, sym, _∙_}
-use mathlib.Core.Bool.{Bool, true, false, _&&_, _||_, cond, true≢false}
+use mathlib.Core.Bool.{Bool, true, false, _&&_, _||_, cond, true≢false, and-eq-true-iff}
 use mathlib.Core.List.{List, [], _∷_}
 use native.Mathlib.Omega.{arith}
 use borrow.Author.Tests.{ltb-true, leb-true, ne-eqb, eqb-true, eqb-false}
@@ -24,15 +24,6 @@ lacks (x ∷ xs) keys lo hi = (holds keys x (suc x) || (ltb x lo || leb hi x)) &
 abbrev pub NoKey : List ℕ → ℕ → Type 0
 NoKey [] c = Unit
 NoKey (k ∷ ks) c = NoKey ks c × (c ≡ k → ⊥)
-
-and-left : (a b : Bool) → a && b ≡ true → a ≡ true
-and-left true b e = refl
-and-left false b e = e
-
-and-right : (a b : Bool) → a && b ≡ true → b ≡ true
-and-right true b e = e
-and-right false true e = refl
-and-right false false e = e
 
 -- one number of the list: it is lo, or the rest of the list holds what it held
 next : (x lo c : ℕ) (after same rest : Bool) → (suc lo ≤ c → after ≡ true → rest ≡ true) → (same ≡ true → rest ≡ true) →
@@ -75,9 +66,8 @@ lacking : (xs keys : List ℕ) (lo hi c : ℕ) → lacks xs keys lo hi ≡ true 
 unfolding listed
 lacking [] keys lo hi c t n h k = refl
 lacking (x ∷ xs) keys lo hi c t n h k =
-    let out = holds keys x (suc x) || (ltb x lo || leb hi x) in
-    rw (ne-eqb c x (other x keys lo hi c (and-left out (lacks xs keys lo hi) t) n h k))
-    (lacking xs keys lo hi c (and-right out (lacks xs keys lo hi) t) n h k)
+    let both = and-eq-true-iff (holds keys x (suc x) || (ltb x lo || leb hi x)) (lacks xs keys lo hi) .0 t in
+    rw (ne-eqb c x (other x keys lo hi c (both .0) n h k)) (lacking xs keys lo hi c (both .1) n h k)
 
 -- the returns of a `match`: an arm's range, an arm's key, what no arm has
 pub in-range : (xs : List ℕ) (lo hi c : ℕ) → holds xs lo hi ≡ true → lo ≤ c → c < hi → true ≡ listed xs c

@@ -181,14 +181,14 @@ typedef struct ugb_properties_parts {
     size_t section_length; /* the whole section's length in bytes, the padding at its end included */
 } ugb_properties_parts;
 
-/* 01's summary. Label and provider name are had through their parts. */
+/* 01's summary. Label and provider name are had through their parts. The two verdicts refuse nothing. */
 typedef struct ugb_summary {
     bool security_first;              /* whether a SecurityHeader stands first, as the caller said */
     ugb_security_header security;     /* the SecurityHeader */
     ugb_properties_fields properties; /* the MessagePropertiesHeader's fields */
     ugb_properties_parts parts;       /* the MessagePropertiesHeader's parts */
-    bool authentication_fails;        /* 01's verdict; it refuses nothing */
-    bool decryption_fails;            /* 01's verdict; it refuses nothing */
+    bool authentication_fails;        /* PrivacyLevel, or HashAlgorithm beside a signature, is none of those listed */
+    bool decryption_fails;            /* EB is set, and EncryptionAlgorithm is none that PrivacyLevel allows in 003 */
 } ugb_summary;
 
 /* 01's full reading. Private parts are had through their parts. */

@@ -31,7 +31,7 @@ static const ugb_section_values values = {
     .body_type = 0x01020304,
     .application_tag = 0x05060708,
     .allocation_body_size = 77,
-    .privacy_level = 3,
+    .privacy_level = 5,
     .hash_algorithm = 0x800C,
     .encryption_algorithm = 0x6610,
     .correlation_id = {1, 2, 3, 4, 5, 6, 7, 8, 9, 10, 11, 12, 13, 14, 15, 16, 17, 18, 19, 20},
@@ -94,7 +94,7 @@ static void check_summary(ugb_summary summary)
     SAME(summary.properties.body_type, 0x01020304);
     SAME(summary.properties.message_size, 10);
     SAME(summary.properties.allocation_body_size, 77);
-    SAME(summary.properties.privacy_level, 3);
+    SAME(summary.properties.privacy_level, 5);
     SAME(summary.properties.hash_algorithm, 0x800C);
     SAME(summary.properties.encryption_algorithm, 0x6610);
     SAME(summary.properties.extension_size, 9);
@@ -153,23 +153,42 @@ static void check_whole(void)
     refused(ugb_support_copy(section, 15, true, out, sizeof out), UGB_INPUT_SHORT, 0);
 }
 
-/* The verdicts, each by itself. */
-static void check_verdicts(void)
+/* The verdicts on what is written from those values. */
+static void check_verdict(ugb_section_values v, bool authentication_fails, bool decryption_fails)
 {
-    ugb_section_values v = values;
-    v.hash_algorithm = 0x8005;
     pattern();
     written(write_whole(v, sizeof certificate, sizeof out), SECTION_LENGTH);
     ugb_summary summary = ugb_summarize(out, sizeof out, true).summary;
-    SAME(summary.authentication_fails, true);
-    SAME(summary.decryption_fails, false);
-    v = values;
-    v.encryption_algorithm = 0x6611;
-    pattern();
-    written(write_whole(v, sizeof certificate, sizeof out), SECTION_LENGTH);
-    summary = ugb_summarize(out, sizeof out, true).summary;
-    SAME(summary.authentication_fails, false);
-    SAME(summary.decryption_fails, true);
+    SAME(summary.authentication_fails, authentication_fails);
+    SAME(summary.decryption_fails, decryption_fails);
+}
+
+/* The verdicts, each by itself: a hash algorithm that is not listed, and an encryption algorithm that the privacy level
+ * does not allow, where EB is set. */
+static void check_verdicts(void)
+{
+    static const uint32_t rc[] = {0x6602, 0x6801}, aes[] = {0x660E, 0x660F, 0x6610}, unlisted[] = {0, 0x6611};
+    ugb_section_values v = values;
+    v.hash_algorithm = 0x8005;
+    check_verdict(v, true, false);
+    for (uint32_t level = 0; level <= 6; level++) {
+        bool listed = level == 0 || level == 1 || level == 3 || level == 5;
+        for (int eb = 0; eb <= 1; eb++) {
+            v = values;
+            v.security_flags = eb ? 0xF0A1 : 0xF081;
+            v.privacy_level = level;
+            for (size_t i = 0; i < 2; i++) {
+                v.encryption_algorithm = rc[i];
+                check_verdict(v, !listed, eb && level != 1 && level != 3);
+                v.encryption_algorithm = unlisted[i];
+                check_verdict(v, !listed, eb);
+            }
+            for (size_t i = 0; i < 3; i++) {
+                v.encryption_algorithm = aes[i];
+                check_verdict(v, !listed, eb && level != 5);
+            }
+        }
+    }
 }
 
 static void check_writer_refuses(void)

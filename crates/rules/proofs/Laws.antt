@@ -1,4 +1,5 @@
 pub mod Accepted
+pub mod Amended
 pub mod Bits
 pub mod Judged
 pub mod Layout

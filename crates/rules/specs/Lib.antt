@@ -1,3 +1,4 @@
+pub mod Amended
 pub mod Judged
 pub mod Layout
 pub mod Listed

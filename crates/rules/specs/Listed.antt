@@ -1,7 +1,7 @@
--- 01's lists of numbers.
+-- 01's lists of numbers, and the table of C-14.
 use Prim.Native.Nat.{ℕ}
 use mathlib.Core.List.{List, [], _∷_}
-use mathlib.Core.Bool.{Bool, false, _||_}
+use mathlib.Core.Bool.{Bool, false, _&&_, _||_}
 use lib.Dec.{eqb}
 
 unfoldable pub listed : List ℕ → ℕ → Bool
@@ -24,6 +24,13 @@ privacyLevels = 0 ∷ 1 ∷ 3 ∷ 5 ∷ []
 unfoldable pub hashAlgorithms : List ℕ
 hashAlgorithms = 0x8001 ∷ 0x8002 ∷ 0x8003 ∷ 0x8004 ∷ 0x800C ∷ 0x800E ∷ []
 
--- 01, "EncryptionAlgorithm is none of 0x6602, 0x660E, 0x660F, 0x6610, 0x6801"
-unfoldable pub encryptionAlgorithms : List ℕ
-encryptionAlgorithms = 0x6602 ∷ 0x660E ∷ 0x660F ∷ 0x6610 ∷ 0x6801 ∷ []
+-- C-14, "003 pairs them": PrivacyLevel and EncryptionAlgorithm, by 003's table of the algorithms that each level allows
+unfoldable pub encryptionPairs : List (ℕ × ℕ)
+encryptionPairs =
+    (1, 0x6602) ∷ (1, 0x6801)
+    ∷ (3, 0x6602) ∷ (3, 0x6801)
+    ∷ (5, 0x660E) ∷ (5, 0x660F) ∷ (5, 0x6610) ∷ []
+
+unfoldable pub paired : List (ℕ × ℕ) → ℕ → ℕ → Bool
+paired [] level algorithm = false
+paired (p ∷ ps) level algorithm = (eqb level (p .0) && eqb algorithm (p .1)) || paired ps level algorithm

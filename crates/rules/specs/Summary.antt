@@ -6,7 +6,7 @@ use lib.ListN.{drop}
 use lib.Dec.{eqb, ltb}
 use Rattle.octets.specs.Number.{le}
 use Rattle.octets.specs.Part.{within}
-use Rattle.rules.specs.Listed.{listed, privacyLevels, hashAlgorithms, encryptionAlgorithms}
+use Rattle.rules.specs.Listed.{listed, privacyLevels, hashAlgorithms, encryptionPairs, paired}
 use Rattle.rules.specs.Refusal.{bytes}
 use Rattle.rules.specs.Security.{part, EB}
 use Rattle.rules.specs.declared.section.Part.{Part}
@@ -24,9 +24,9 @@ authenticationFails s p =
     not (listed privacyLevels (p .«privacy_level»))
     || (ltb 0 (s .«signature_size» .0) && not (listed hashAlgorithms (p .«hash_algorithm»)))
 
--- "EB is set and EncryptionAlgorithm is none of .."
+-- C-14, "when EB is set and the pair is not in that table"
 unfoldable pub decryptionFails : SecurityFields → PropertiesFields → Bool
-decryptionFails s p = eqb (EB s) 1 && not (listed encryptionAlgorithms (p .«encryption_algorithm»))
+decryptionFails s p = eqb (EB s) 1 && not (paired encryptionPairs (p .«privacy_level») (p .«encryption_algorithm»))
 
 unfoldable pub verdictsOf : SecurityFields → PropertiesFields → Verdicts
 verdictsOf s p = record { «authentication_fails» = authenticationFails s p; «decryption_fails» = decryptionFails s p }
@@ -62,16 +62,19 @@ noSecurity =
       «provider_type» = 0;
     }
 
-unfoldable pub summaryOf : Bool → SecurityHeader → PropertiesFields → PropertiesParts → Summary
-summaryOf first h f parts =
+abbrev pub summaryWith : Verdicts → Bool → SecurityHeader → PropertiesFields → PropertiesParts → Summary
+summaryWith v first h f parts =
     record {
       «security_first» = first;
       security = h;
       properties = f;
       parts = parts;
-      «authentication_fails» = authenticationFails (h .fields) f;
-      «decryption_fails» = decryptionFails (h .fields) f;
+      «authentication_fails» = v .«authentication_fails»;
+      «decryption_fails» = v .«decryption_fails»;
     }
+
+unfoldable pub summaryOf : Bool → SecurityHeader → PropertiesFields → PropertiesParts → Summary
+summaryOf first h f parts = summaryWith (verdictsOf (h .fields) f) first h f parts
 
 -- where the MessagePropertiesHeader begins, 01's p
 abbrev pub propertiesAt : Summary → ℕ

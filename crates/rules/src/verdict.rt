@@ -1,9 +1,9 @@
-// 01's two verdicts, which go with an acceptance and refuse nothing.
+// 01's two verdicts, decryption's as C-14 has it, which go with an acceptance and refuse nothing.
 use crate::properties::PropertiesFields;
 use crate::security::EB;
 use crate::security::SecurityFields;
 ghost use mathlib.Core.Path.{_≡_};
-ghost use Rattle.rules.specs.Listed.{listed, privacyLevels, hashAlgorithms, encryptionAlgorithms};
+ghost use Rattle.rules.specs.Listed.{listed, privacyLevels, hashAlgorithms, encryptionPairs, paired};
 ghost use Rattle.rules.specs.Summary.{authenticationFails, decryptionFails, verdictsOf};
 
 pub struct Verdicts {
@@ -33,14 +33,14 @@ fn is_hash_algorithm(algorithm: u32) -> bool
     }
 }
 
-fn is_encryption_algorithm(algorithm: u32) -> bool
-    ensures { λ r. ⌜ r ≡ listed encryptionAlgorithms algorithm ⌝ }
+// 003's table: a privacy level, and the encryption algorithms that it allows.
+fn is_paired(level: u32, algorithm: u32) -> bool
+    ensures { λ r. ⌜ r ≡ paired encryptionPairs level algorithm ⌝ }
 {
-    match algorithm {
-        0x6602 => true,
-        0x660E..=0x6610 => true,
-        0x6801 => true,
-        _ => false,
+    match level {
+        1 | 3 => (algorithm == 0x6602) | (algorithm == 0x6801), // RC2, RC4
+        5 => (algorithm == 0x660E) | (algorithm == 0x660F) | (algorithm == 0x6610), // AES
+        _ => false, // level 0 too
     }
 }
 
@@ -56,7 +56,7 @@ fn decryption_fails(security: SecurityFields, properties: PropertiesFields) -> b
     ensures { λ r. ⌜ r ≡ decryptionFails security properties ⌝ }
 {
     let encrypted = security.flags / EB % 2 == 1;
-    encrypted & !is_encryption_algorithm(properties.encryption_algorithm)
+    encrypted & !is_paired(properties.privacy_level, properties.encryption_algorithm)
 }
 
 pub fn verdicts_of(security: SecurityFields, properties: PropertiesFields) -> Verdicts

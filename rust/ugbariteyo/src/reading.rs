@@ -79,7 +79,26 @@ impl<'a> Reading<'a> {
         self.answer.section.summary.authentication_fails
     }
 
-    /// The verdict "decryption fails": EB is set, and EncryptionAlgorithm is none of those listed.
+    /// The verdict "decryption fails": EB is set, and EncryptionAlgorithm is none that PrivacyLevel allows.
+    /// Levels 1 and 3 allow RC2 and RC4 (0x6602, 0x6801), level 5 allows AES (0x660E, 0x660F, 0x6610); no
+    /// other level allows any.
+    ///
+    /// ```
+    /// use ugbariteyo::{read, write_section_vec, First, SecurityFlags, SectionValues};
+    ///
+    /// let rc4 = SectionValues {
+    ///     first: First::SecurityHeader,
+    ///     security_flags: SecurityFlags(SecurityFlags::DP | SecurityFlags::EB),
+    ///     encryption_key: b"key",
+    ///     privacy_level: 3,
+    ///     encryption_algorithm: 0x6801,
+    ///     ..SectionValues::default()
+    /// };
+    /// let bytes = write_section_vec(&rc4).unwrap();
+    /// assert!(!read(&bytes, rc4.first).unwrap().decryption_fails());
+    /// let bytes = write_section_vec(&SectionValues { privacy_level: 5, ..rc4 }).unwrap();
+    /// assert!(read(&bytes, rc4.first).unwrap().decryption_fails());
+    /// ```
     #[inline]
     pub fn decryption_fails(&self) -> bool {
         self.answer.section.summary.decryption_fails

@@ -72,9 +72,9 @@ pub struct Summary<'a> {
     pub body: Part,
     /// The section's length, padding included.
     pub section_length: usize,
-    /// The verdict "authentication fails".
+    /// The verdict "authentication fails": [`Reading::authentication_fails`](crate::Reading::authentication_fails).
     pub authentication_fails: bool,
-    /// The verdict "decryption fails".
+    /// The verdict "decryption fails": [`Reading::decryption_fails`](crate::Reading::decryption_fails).
     pub decryption_fails: bool,
     /// The label.
     pub label: Text<'a>,

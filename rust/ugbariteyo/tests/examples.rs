@@ -346,11 +346,24 @@ fn verdicts_refuse_nothing() {
         let fails = ![0x8001, 0x8002, 0x8003, 0x8004, 0x800C, 0x800E].contains(&hash);
         assert_eq!(verdicts(&SectionValues { hash_algorithm: hash, ..signed }), (fails, false));
     }
-    let security_flags = SecurityFlags(SecurityFlags::DP | SecurityFlags::EB);
-    let encrypted = SectionValues { first: SecurityHeader, security_flags, encryption_key: b"k", ..plain };
-    for algorithm in 0x6600..0x6803 {
-        let fails = ![0x6602, 0x660E, 0x660F, 0x6610, 0x6801].contains(&algorithm);
-        assert_eq!(verdicts(&SectionValues { encryption_algorithm: algorithm, ..encrypted }), (false, fails));
+}
+
+#[test]
+fn decryption_fails_by_the_pair() {
+    let allowed = |level: u32| match level {
+        1 | 3 => &[0x6602, 0x6801][..],
+        5 => &[0x660E, 0x660F, 0x6610],
+        _ => &[],
+    };
+    for (level, eb) in (0..8).flat_map(|level| [(level, SecurityFlags::EB), (level, 0)]) {
+        let security_flags = SecurityFlags(SecurityFlags::DP | eb);
+        let values = SectionValues { first: SecurityHeader, security_flags, privacy_level: level, ..Default::default() };
+        for algorithm in 0x6600..0x6803 {
+            let values = SectionValues { encryption_key: b"k", encryption_algorithm: algorithm, ..values };
+            let bytes = write_section_vec(&values).unwrap();
+            let fails = read(&bytes, SecurityHeader).unwrap().decryption_fails();
+            assert_eq!(fails, eb != 0 && !allowed(level).contains(&algorithm), "{level}, {algorithm:#x}");
+        }
     }
 }
 

@@ -6,7 +6,7 @@ use Rattle.rules.proofs.verdict.decryption_fails.Tie as tie
 
 returns : tie.Need-returns
 unfolding decryptionFails
-returns c = rw (c .is-encryption-algorithm .ensures)
+returns c = rw (c .is-paired .ensures)
 
 pub decryption-fails-spec : {M : Type 1} → statement M
 decryption-fails-spec =

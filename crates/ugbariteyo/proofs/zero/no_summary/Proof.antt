@@ -4,19 +4,19 @@ use mathlib.Core.Bool.{false}
 use Rattle.octets.specs.Number.{le}
 use Rattle.rules.specs.Listed.{listed, privacyLevels}
 use Rattle.rules.specs.Properties.{propertiesFields}
-use Rattle.rules.specs.Summary.{authenticationFails, decryptionFails, noSecurity, summaryOf}
+use Rattle.rules.specs.Summary.{authenticationFails, decryptionFails, noSecurity, summaryOf, verdictsOf}
 use Rattle.ugbariteyo.specs.Zero.{noProperties, noSummary}
 use borrow.Author.Needs.{needs}
 use Rattle.ugbariteyo.proofs.zero.no_summary.Statement.{statement}
 use Rattle.ugbariteyo.proofs.zero.no_summary.Tie as tie
 
-verdicts : (authenticationFails (noSecurity .fields) noProperties ≡ false) × (decryptionFails (noSecurity .fields) noProperties ≡ false)
-unfolding authenticationFails decryptionFails noSecurity noProperties propertiesFields le listed privacyLevels
-verdicts = (refl, refl)
+neither : verdictsOf (noSecurity .fields) noProperties ≡ record { «authentication_fails» = false; «decryption_fails» = false }
+unfolding verdictsOf authenticationFails decryptionFails noSecurity noProperties propertiesFields le listed privacyLevels
+neither = refl
 
 returns : tie.Need-returns
 unfolding noSummary summaryOf
-returns c = simp (c .before .before .no-part .ensures, c .before .no-security .ensures, c .no-properties .ensures, verdicts .0, verdicts .1)
+returns c = simp (c .before .before .no-part .ensures, c .before .no-security .ensures, c .no-properties .ensures, neither)
 
 pub no-summary-spec : {M : Type 1} → statement M
 no-summary-spec =

@@ -1,0 +1,50 @@
+-- What 02 amends in the definitions of 01, and that nothing else changes with it.
+use Prim.Native.Nat.{ℕ}
+use mathlib.Core.Path.{_≡_}
+use mathlib.Core.Bool.{Bool, true, false, not, _&&_}
+use mathlib.Core.List.{List, [], _∷_}
+use lib.Dec.{eqb}
+use Rattle.rules.specs.Listed.{listed}
+use Rattle.rules.specs.Security.{EB}
+use Rattle.rules.specs.Summary.{authenticationFails, decryptionFails, summaryOf, summaryWith}
+use Rattle.rules.specs.declared.properties.PropertiesFields.{PropertiesFields}
+use Rattle.rules.specs.declared.properties.PropertiesParts.{PropertiesParts}
+use Rattle.rules.specs.declared.section.Summary.{Summary}
+use Rattle.rules.specs.declared.security.SecurityFields.{SecurityFields}
+use Rattle.rules.specs.declared.security.SecurityHeader.{SecurityHeader}
+
+-- 01, "Decryption fails when EB is set and EncryptionAlgorithm is none of 0x6602, 0x660E, 0x660F, 0x6610, 0x6801"
+unfoldable pub encryptionAlgorithms : List ℕ
+encryptionAlgorithms = 0x6602 ∷ 0x660E ∷ 0x660F ∷ 0x6610 ∷ 0x6801 ∷ []
+
+unfoldable pub baseDecryptionFails : SecurityFields → PropertiesFields → Bool
+baseDecryptionFails s p = eqb (EB s) 1 && not (listed encryptionAlgorithms (p .«encryption_algorithm»))
+
+-- the summary as 01 has it
+unfoldable pub baseSummaryOf : Bool → SecurityHeader → PropertiesFields → PropertiesParts → Summary
+baseSummaryOf first h f parts =
+    summaryWith
+    (record { «authentication_fails» = authenticationFails (h .fields) f; «decryption_fails» = baseDecryptionFails (h .fields) f })
+    first h f parts
+
+-- a summary with d in the place of its verdict on decryption
+unfoldable pub withDecryption : Bool → Summary → Summary
+withDecryption d m =
+    summaryWith (record { «authentication_fails» = m .«authentication_fails»; «decryption_fails» = d })
+    (m .«security_first») (m .security) (m .properties) (m .parts)
+
+-- C-14
+pub record Paired : Type 0 where
+  -- "A partner's message had level 5 with RC4, and our sheet called it fit to decrypt."
+  pub partner : (s : SecurityFields) (p : PropertiesFields) → EB s ≡ 1 → p .«privacy_level» ≡ 5 → p .«encryption_algorithm» ≡ 0x6801
+      → (baseDecryptionFails s p ≡ false) × (decryptionFails s p ≡ true)
+  -- "Decryption now fails also ..": it fails wherever it failed in 01
+  pub also : (s : SecurityFields) (p : PropertiesFields) → baseDecryptionFails s p ≡ true → decryptionFails s p ≡ true
+  -- "level 0 and unlisted levels included": any level but 1, 3 and 5
+  pub level : (s : SecurityFields) (p : PropertiesFields) → EB s ≡ 1 → listed (1 ∷ 3 ∷ 5 ∷ []) (p .«privacy_level») ≡ false
+      → decryptionFails s p ≡ true
+  -- "when EB is set": where it is clear, never
+  pub clear : (s : SecurityFields) (p : PropertiesFields) → EB s ≡ 0 → decryptionFails s p ≡ false
+  -- "in summaries only this verdict changes": the summary is 01's with this verdict in the place of 01's
+  pub summary : (first : Bool) (h : SecurityHeader) (f : PropertiesFields) (parts : PropertiesParts)
+      → summaryOf first h f parts ≡ withDecryption (decryptionFails (h .fields) f) (baseSummaryOf first h f parts)

@@ -34,7 +34,7 @@ withDecryption d m =
     (m .«security_first») (m .security) (m .properties) (m .parts)
 
 -- C-14
-pub record Paired : Type 0 where
+pub record DecryptionAmended : Type 0 where
   -- "A partner's message had level 5 with RC4, and our sheet called it fit to decrypt."
   pub partner : (s : SecurityFields) (p : PropertiesFields) → EB s ≡ 1 → p .«privacy_level» ≡ 5 → p .«encryption_algorithm» ≡ 0x6801
       → (baseDecryptionFails s p ≡ false) × (decryptionFails s p ≡ true)

@@ -5,7 +5,7 @@ use mathlib.Core.Bool.{Bool, true, false, not, _&&_, _||_, true≢false, and-eq-
 use mathlib.Core.List.{List, [], _∷_}
 use borrow.Author.Tests.{eqb-true}
 use lib.Dec.{eqb}
-use Rattle.rules.specs.Amended.{Paired, baseDecryptionFails, baseSummaryOf, encryptionAlgorithms, withDecryption}
+use Rattle.rules.specs.Amended.{DecryptionAmended, baseDecryptionFails, baseSummaryOf, encryptionAlgorithms, withDecryption}
 use Rattle.rules.specs.Listed.{encryptionPairs, listed, paired}
 use Rattle.rules.specs.Security.{EB}
 use Rattle.rules.specs.Summary.{decryptionFails, summaryOf, verdictsOf}
@@ -64,9 +64,9 @@ failed-before s p e =
     let both = and-eq-true-iff (eqb (EB s) 1) (not isListed) .0 e in
     fails s p (both .0) (rw (not-true isListed (both .1)) (and-false (listed levels (p .«privacy_level»))))
 
-pub amended-pairs : Paired
+pub decryption-amended : DecryptionAmended
 unfolding decryptionFails baseDecryptionFails encryptionAlgorithms listed encryptionPairs paired summaryOf verdictsOf baseSummaryOf withDecryption
-amended-pairs =
+decryption-amended =
     record {
       partner = λ s p e level algorithm. (rw (e, algorithm), rw (e, level, algorithm));
       also = failed-before;

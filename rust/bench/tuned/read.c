@@ -52,9 +52,11 @@ static inline bool authentication_fails(bool signature, uint32_t privacy, uint32
     return !privacy_listed || (signature && !hash_listed);
 }
 
-static inline bool decryption_fails(bool encrypted, uint32_t algorithm)
+/* 003's table by the level: AES at 5, RC2 and RC4 at 1 and 3. */
+static inline bool decryption_fails(bool encrypted, uint32_t privacy, uint32_t algorithm)
 {
-    return encrypted && algorithm != 0x6602 && algorithm - 0x660E > 2 && algorithm != 0x6801;
+    bool aes = algorithm - 0x660E <= 2, rc = algorithm == 0x6602 || algorithm == 0x6801;
+    return encrypted && !(privacy == 5 ? aes : (privacy & ~2u) == 1 && rc);
 }
 
 void tuned_read(ugb_reading *answer, const uint8_t *s, size_t s_length, bool security_first)
@@ -78,7 +80,8 @@ void tuned_read(ugb_reading *answer, const uint8_t *s, size_t s_length, bool sec
     fill_properties(summary, &second, header);
     summary->authentication_fails =
         authentication_fails(first.size[SIGNATURE] != 0, number32(header + 40), number32(header + 44));
-    summary->decryption_fails = decryption_fails((first.flags & FLAG_EB) != 0, number32(header + 48));
+    summary->decryption_fails =
+        decryption_fails((first.flags & FLAG_EB) != 0, number32(header + 40), number32(header + 48));
     answer->section.correlation_id = (ugb_part){second.at + 4, 20};
     answer->section.application_tag = number32(header + 28);
 }

@@ -1,4 +1,4 @@
-//! 01's examples, held against each side. Their parts have content that passes S10, S11 and P7.
+//! 01's examples and C-14's, held against each side. Their parts have content that passes S10, S11 and P7.
 
 use crate::lend::lend;
 use crate::report::{agree, Check, Tally};
@@ -8,7 +8,7 @@ use crate::side::{Answer, Part, Refusal, Request, SectionValues, Side, Sides, So
 type Example = (&'static str, fn(&dyn Side) -> Check);
 
 /// The examples, by their numbers.
-const EXAMPLES: [Example; 12] = [
+const EXAMPLES: [Example; 13] = [
     ("example 1", zero_bytes),
     ("example 2", parts_in_a_row),
     ("example 3", longest_label),
@@ -21,6 +21,7 @@ const EXAMPLES: [Example; 12] = [
     ("example 10", queue_pairs),
     ("example 11", titles),
     ("the listing's example", listing),
+    ("C-14's example", level_and_algorithm),
 ];
 
 /// Holds every example against both sides.
@@ -250,4 +251,20 @@ fn listing(side: &dyn Side) -> Check {
     let listed = side.list(&file, Source::Pipe).map(|lines| String::from_utf8_lossy(&lines).into_owned());
     let wanted = "no answer class label ext body total\n0 ok 0 0 1 3 60\n1 refused 1 0\nend 2\n";
     agree("the listing", &listed.map_err(|error| error.to_string()), &Ok(wanted.into()))
+}
+
+/// Level 5 with RC4, beside AES 256 and level 0; without EB none of them fails.
+fn level_and_algorithm(side: &dyn Side) -> Check {
+    for (level, algorithm, fails) in [(5, 0x6801_u32, true), (5, 0x6610, false), (0, 0x6801, true)] {
+        for (security_flags, wanted) in [(0x00A0, fails), (0x0080, false)] {
+            let header = Input::security(security_flags, [0, 4, 0], 0, 0, b"akey");
+            let Input(mut bytes) = header.properties(0, 0, 0, 0, &[]);
+            bytes[20 + 40] = level;
+            bytes[20 + 48..20 + 52].copy_from_slice(&algorithm.to_le_bytes());
+            reads(side, &bytes, true, Ok(20 + 56))?;
+            let found = side.summarize(&bytes, true).map(|summary| summary.decryption_fails);
+            agree("decryption fails", &found, &Ok(wanted))?;
+        }
+    }
+    Ok(())
 }

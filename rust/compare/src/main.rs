@@ -15,7 +15,9 @@ use compare::library::Library;
 use compare::report::{Tally, HEADER};
 use compare::second::Independent;
 use compare::side::Sides;
-use compare::{classes, copies, examples, listing, properties, queues, requests, sections, sweeps, writing};
+use compare::{
+    classes, copies, examples, listing, pairs, properties, queues, requests, sections, sweeps, writing,
+};
 use independent::generate::Random;
 
 /// The seed where none is given.
@@ -97,6 +99,7 @@ fn run(arguments: Arguments) -> io::Result<u64> {
     print(sections, &SECTION);
     print(other_way, &SECTION);
     print(classes::run(sides, &mut generator()), &[10]);
+    print(pairs::run(sides, &mut generator()), &[]);
     print(sweeps::run(sides, &mut generator()), &[]);
     print(properties::run(&library, 500_000 * factor, &mut generator()), &SECTION);
     print(writing::run(sides, 300_000 * factor, &mut generator()), &WRITER);

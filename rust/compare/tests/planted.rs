@@ -7,10 +7,10 @@ use compare::report::Tally;
 use compare::second::{defaulted, reading, sent, summary, Independent};
 use compare::side::{Answer, Defaulted, Image, Line, Next, Reading, Record, Records, Request};
 use compare::side::{SectionValues, Sent, Side, Sides, Source, Summary};
-use compare::{classes, examples, listing, properties, queues, requests, sections, sweeps, writing};
+use compare::{classes, examples, listing, pairs, properties, queues, requests, sections, sweeps, writing};
 use independent::generate::Random;
 use independent::neighbours::{List, Neighbours};
-use independent::planted;
+use independent::planted::{self, WrongVerdict};
 
 /// The generated cases of a kind.
 const CASES: u64 = 8_000;
@@ -24,6 +24,8 @@ enum Fault {
     ClassRead(u16),
     ClassWritten(u16),
     ClassSent(u16),
+    /// The verdict on decryption is another.
+    Verdict(WrongVerdict),
     /// Private bits count.
     SameSummary,
     /// A label of one unit is taken for none.
@@ -88,6 +90,9 @@ impl Side for Planted {
             Fault::ClassRead(extra) => {
                 planted::read_class(extra, input, security_first).map(|section| reading(&section, input))
             }
+            Fault::Verdict(wrong) => {
+                planted::read_verdict(wrong, input, security_first).map(|section| reading(&section, input))
+            }
             Fault::Exchanged(List::Reading, pair) => planted::read_exchanged(pair.at, input, security_first)
                 .map(|section| reading(&section, input)),
             _ => Independent.read(input, security_first),
@@ -96,7 +101,7 @@ impl Side for Planted {
     fn summarize<'a>(&self, input: &'a [u8], security_first: bool) -> Answer<Summary<'a>> {
         match self.0 {
             Fault::Read => planted::read(input, security_first).map(|section| summary(&section)),
-            Fault::Exchanged(List::Reading, _) | Fault::ClassRead(_) => {
+            Fault::Exchanged(List::Reading, _) | Fault::ClassRead(_) | Fault::Verdict(_) => {
                 self.read(input, security_first).map(|reading| reading.summary)
             }
             _ => Independent.summarize(input, security_first),
@@ -231,6 +236,7 @@ fn finds(faults: &[Fault], run: impl Fn(Sides<'_>) -> Tally) {
 fn sections_read_and_copied() {
     use Fault::{LabelShown, Read, Refusal, SameSummary, SupportCopy, WriteSection};
     let mut faults = vec![Read, SameSummary, LabelShown, SupportCopy, WriteSection, Refusal];
+    faults.extend(WrongVerdict::ALL.map(Fault::Verdict));
     faults.append(&mut exchanges(List::Reading));
     finds(&faults, |sides| {
         let [sections, _] = sections::run(sides, CASES, &mut Random::new(1));
@@ -243,6 +249,12 @@ fn every_class() {
     let gaps = [0x8008, 0xC003, 0x4001];
     let faults = [gaps.map(Fault::ClassRead), gaps.map(Fault::ClassWritten), gaps.map(Fault::ClassSent)];
     finds(&faults.concat(), |sides| classes::run(sides, &mut Random::new(11)));
+}
+
+#[test]
+fn every_pair() {
+    let faults = WrongVerdict::ALL.map(Fault::Verdict);
+    finds(&faults, |sides| pairs::run(sides, &mut Random::new(12)));
 }
 
 #[test]
@@ -305,10 +317,14 @@ fn the_same_fault_on_both_sides() {
     let reading_images: Run = |sides| queues::run_reading(sides, CASES, &mut Random::new(9));
     let requests: Run = |sides| requests::run(sides, CASES, &mut Random::new(9));
     let classes: Run = |sides| classes::run(sides, &mut Random::new(9));
+    let pairs: Run = |sides| pairs::run(sides, &mut Random::new(9));
     for (fault, run) in [
         (Fault::ClassRead(0x8008), classes),
         (Fault::ClassWritten(0xC003), classes),
         (Fault::ClassSent(0x4001), classes),
+        (Fault::Verdict(WrongVerdict::LevelIgnored), pairs),
+        (Fault::Verdict(WrongVerdict::LevelZero), pairs),
+        (Fault::Verdict(WrongVerdict::EbIgnored), pairs),
         (Fault::Read, sections),
         (Fault::SameSummary, sections),
         (Fault::Refusal, sections),
@@ -326,5 +342,6 @@ fn the_same_fault_on_both_sides() {
 
 #[test]
 fn examples_of_the_paper() {
-    finds(&[Fault::Read, Fault::WriteSection], examples::run);
+    let old = Fault::Verdict(WrongVerdict::LevelIgnored);
+    finds(&[Fault::Read, Fault::WriteSection, old], examples::run);
 }

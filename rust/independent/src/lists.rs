@@ -1,4 +1,4 @@
-//! The listed numbers: classes, privacy levels, hash and encryption algorithms.
+//! The listed numbers: classes, privacy levels, hash algorithms, and encryption algorithms by level.
 
 /// Whether P3 passes `class`.
 pub(crate) fn class_is_listed(class: u16) -> bool {
@@ -23,7 +23,20 @@ pub(crate) fn hash_is_listed(hash: u32) -> bool {
     matches!(hash, 0x8001..=0x8004 | 0x800C | 0x800E)
 }
 
-/// Whether decryption can go on with `algorithm`.
-pub(crate) fn encryption_is_listed(algorithm: u32) -> bool {
-    matches!(algorithm, 0x6602 | 0x660E | 0x660F | 0x6610 | 0x6801)
+/// 003's encryption algorithms.
+const RC2: u32 = 0x6602;
+const RC4: u32 = 0x6801;
+const AES_128: u32 = 0x660E;
+const AES_192: u32 = 0x660F;
+const AES_256: u32 = 0x6610;
+
+/// Whether decryption can go on with `algorithm` at the level `privacy`: 003's table of the allowed
+/// algorithms, row by row.
+pub(crate) fn encryption_is_allowed(privacy: u32, algorithm: u32) -> bool {
+    match privacy {
+        1 => matches!(algorithm, RC2 | RC4),
+        3 => matches!(algorithm, RC2 | RC4),
+        5 => matches!(algorithm, AES_128 | AES_192 | AES_256),
+        _ => false,
+    }
 }

@@ -8,6 +8,7 @@ use crate::bytes::padded;
 use crate::copies::{self, Copies};
 use crate::copy::support_copy_by;
 use crate::listing::{self, Answer, Line, RECORD};
+use crate::lists::encryption_is_allowed;
 use crate::order::{exchanged, Step};
 use crate::queue::{self, Image};
 use crate::read::read_by;
@@ -15,7 +16,7 @@ use crate::request::{self, Request, SENDING};
 use crate::section::{Part, PROPERTIES_FIXED};
 use crate::steps::{ENDLESS, READING, WRITING};
 use crate::write::write_by;
-use crate::{number, Refusal, Section, SectionValues};
+use crate::{number, Refusal, Section, SectionValues, Summary};
 
 /// Reads with the extension padded to 4 before the body, the customer's old fault.
 pub fn read(input: &[u8], security_first: bool) -> Result<Section<'_>, Refusal> {
@@ -64,6 +65,48 @@ pub fn send_class(extra: u16, request: &Request<'_>, out: &mut [u8]) -> Result<u
 /// The list without the step for the class.
 fn without_class<T: Copy>(order: &[Step<T, u32>]) -> Vec<Step<T, u32>> {
     order.iter().filter(|step| step.answer != number::CLASS).copied().collect()
+}
+
+/// Verdicts on decryption other than by EB and 003's table of levels and algorithms.
+#[derive(Debug, Clone, Copy, PartialEq, Eq)]
+pub enum WrongVerdict {
+    /// The algorithm is looked at without the level, as in 01 before C-14.
+    LevelIgnored,
+    /// Level 0 passes with every listed algorithm.
+    LevelZero,
+    /// Levels 1 and 3 are taken for a range.
+    LevelTwo,
+    /// The level's low byte alone is looked at.
+    LevelCut,
+    /// EB is not looked at.
+    EbIgnored,
+}
+
+impl WrongVerdict {
+    /// All of them.
+    pub const ALL: [Self; 5] =
+        [Self::LevelIgnored, Self::LevelZero, Self::LevelTwo, Self::LevelCut, Self::EbIgnored];
+
+    fn fails(self, encrypted: bool, privacy: u32, algorithm: u32) -> bool {
+        let listed = matches!(algorithm, 0x6602 | 0x660E | 0x660F | 0x6610 | 0x6801);
+        let allowed = |level| encryption_is_allowed(level, algorithm);
+        match self {
+            Self::LevelIgnored => encrypted && !listed,
+            Self::LevelZero => encrypted && !allowed(privacy) && !(privacy == 0 && listed),
+            Self::LevelTwo => encrypted && !allowed(if privacy == 2 { 1 } else { privacy }),
+            Self::LevelCut => encrypted && !allowed(privacy & 0xFF),
+            Self::EbIgnored => !allowed(privacy),
+        }
+    }
+}
+
+/// Reads with a wrong verdict on decryption.
+pub fn read_verdict(wrong: WrongVerdict, input: &[u8], security_first: bool) -> Result<Section<'_>, Refusal> {
+    let mut section = crate::read(input, security_first)?;
+    let Summary { security, properties, .. } = section.summary;
+    let encrypted = security.is_some_and(|security| security.flags.body_encrypted());
+    section.summary.decryption_fails = wrong.fails(encrypted, properties.privacy, properties.encryption);
+    Ok(section)
 }
 
 /// Copies the X bits of the properties Flags too, which are private.

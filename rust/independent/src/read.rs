@@ -1,7 +1,7 @@
 //! Reading a section by the steps S1 to S11 and P1 to P7.
 
 use crate::bytes::{u16_at, u32_at};
-use crate::lists::{encryption_is_listed, hash_is_listed, privacy_is_listed};
+use crate::lists::{encryption_is_allowed, hash_is_listed, privacy_is_listed};
 use crate::section::{Parts, Properties, Section, Security, SecurityFlags, Summary};
 use crate::section::{PROPERTIES_FIXED, SECURITY_FIXED};
 use crate::steps::{Headers, PropertiesHeader, SectionStep, SecurityHeader, ENDLESS, READING};
@@ -143,5 +143,5 @@ fn authentication_fails(security: &Option<Security>, properties: &Properties) ->
 
 fn decryption_fails(security: &Option<Security>, properties: &Properties) -> bool {
     let encrypted = security.as_ref().is_some_and(|security| security.flags.body_encrypted());
-    encrypted && !encryption_is_listed(properties.encryption)
+    encrypted && !encryption_is_allowed(properties.privacy, properties.encryption)
 }

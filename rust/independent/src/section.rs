@@ -152,7 +152,7 @@ pub struct Summary<'a> {
     pub properties: Properties<'a>,
     /// The verdict on privacy level and hash algorithm.
     pub authentication_fails: bool,
-    /// The verdict on the encryption algorithm.
+    /// The verdict on privacy level and encryption algorithm.
     pub decryption_fails: bool,
     /// Start and length of each part.
     pub parts: Parts,

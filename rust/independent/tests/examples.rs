@@ -1,4 +1,4 @@
-//! The paper's examples 1 to 11 and the listing's, with content that passes S10, S11 and P7.
+//! The paper's examples 1 to 11, the listing's and C-14's, with content that passes S10, S11 and P7.
 
 use independent::queue::{read_image, write_image};
 use independent::request::{defaulted, send, Request};
@@ -311,4 +311,19 @@ no answer class label ext body total
 end 2
 ";
     assert_eq!(String::from_utf8(lines).unwrap(), expected);
+}
+
+#[test]
+fn level_and_algorithm() {
+    let fails = |flags, level, algorithm: u32| {
+        let mut header = properties(0, 0, 0, 0, 0);
+        header[40] = level;
+        header[48..52].copy_from_slice(&algorithm.to_le_bytes());
+        let bytes = [&security(flags, [0, 1, 0], 0, 0), &b"k???"[..], &header].concat();
+        read(&bytes, true).unwrap().summary.decryption_fails
+    };
+    for (level, algorithm, with_eb) in [(5, 0x6801, true), (5, 0x6610, false), (0, 0x6801, true)] {
+        assert_eq!(fails(0x00A0, level, algorithm), with_eb, "level {level} with {algorithm:#06x}");
+        assert!(!fails(0x0080, level, algorithm), "EB is clear");
+    }
 }

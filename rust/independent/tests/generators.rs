@@ -1,4 +1,5 @@
-//! How often each refusal comes up in the generated cases. `--nocapture` prints the tables.
+//! How often each refusal comes up in the generated cases, and each level beside each algorithm.
+//! `--nocapture` prints the tables.
 
 use std::collections::BTreeMap;
 
@@ -6,7 +7,7 @@ use independent::generate::{case, day, image, image_values, request, section_val
 use independent::listing::{ended_by, next_record, Next};
 use independent::queue::{read_image, write_image};
 use independent::request::send;
-use independent::{number, read, write_section, Refusal};
+use independent::{number, read, write_section, Refusal, Summary};
 
 /// How often each number comes up; 0 for an acceptance.
 type Counts = BTreeMap<u32, usize>;
@@ -47,6 +48,30 @@ fn sections() {
     });
     assert!(counts[&0] > 15_000);
     each_at_least(&counts, 1..=12, 100, &[]);
+}
+
+/// The levels and algorithms of 003's table, and the levels 0, 2 and 4 beside them.
+const LEVELS: [u32; 6] = [0, 1, 2, 3, 4, 5];
+const ALGORITHMS: [u32; 5] = [0x6602, 0x660E, 0x660F, 0x6610, 0x6801];
+
+/// Each level and any other comes beside each algorithm and any other, where EB is set.
+#[test]
+fn levels_and_algorithms() {
+    let mut r = Random::new(8);
+    let mut counts = BTreeMap::new();
+    for _ in 0..50_000 {
+        let case = case(&mut r);
+        let Ok(section) = read(&case.bytes, case.security_first) else { continue };
+        let Summary { security, properties, .. } = section.summary;
+        if security.is_some_and(|security| security.flags.body_encrypted()) {
+            let level = LEVELS.into_iter().find(|&level| level == properties.privacy);
+            let algorithm = ALGORITHMS.into_iter().find(|&algorithm| algorithm == properties.encryption);
+            *counts.entry((level, algorithm)).or_insert(0) += 1;
+        }
+    }
+    println!("levels and algorithms: {counts:?}");
+    assert_eq!(counts.len(), (LEVELS.len() + 1) * (ALGORITHMS.len() + 1));
+    assert!(counts.values().all(|&sections| sections >= 40), "{counts:?}");
 }
 
 #[test]

@@ -29,6 +29,18 @@ fn sections() {
 }
 
 #[test]
+fn verdicts_on_decryption() {
+    for wrong in planted::WrongVerdict::ALL {
+        let found = differences(9, |r| {
+            let case = case(r);
+            let (input, first) = (&case.bytes[..], case.security_first);
+            read(input, first) != planted::read_verdict(wrong, input, first)
+        });
+        assert!(found > 0, "{wrong:?}");
+    }
+}
+
+#[test]
 fn support_copies() {
     let found = differences(2, |r| {
         let case = case(r);

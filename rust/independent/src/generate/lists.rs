@@ -12,8 +12,10 @@ pub(super) const NO_CLASSES: [u16; 16] = [
     0xC008, 0xFFFF, 0x0080,
 ];
 
-/// Privacy levels: four listed ones, then others.
-pub(super) const PRIVACY: [u32; 12] = [0, 1, 3, 5, 2, 4, 6, 7, 0x100, 0x01000000, 0x00010001, 0xFFFFFFFF];
+/// Privacy levels: four listed ones, the two between them, then others; the last four have 1, 3 or 5
+/// in their low bits.
+pub(super) const PRIVACY: [u32; 15] =
+    [0, 1, 3, 5, 2, 4, 6, 7, 0x100, 0x01000000, 0xFFFFFFFF, 0x00010001, 0x23, 0x105, 0x80000005];
 
 /// Hash algorithms: six listed ones, then others.
 pub(super) const HASHES: [u32; 18] = [

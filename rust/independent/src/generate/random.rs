@@ -108,7 +108,7 @@ impl Random {
     }
     /// A packet's privacy, listed or not.
     pub(super) fn privacy(&mut self) -> u32 {
-        let count = self.pick(&[4, PRIVACY.len()]);
+        let count = self.pick(&[4, 6, PRIVACY.len()]);
         self.pick(&PRIVACY[..count])
     }
     /// A hash algorithm, listed or not.

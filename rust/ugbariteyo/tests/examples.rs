@@ -75,7 +75,7 @@ fn full_section() -> Vec<u8> {
     header[4..24].fill(0xCC);
     header[24] = 8;
     header[28..32].copy_from_slice(&0xDEAD_BEEFu32.to_le_bytes());
-    header[40] = 3;
+    header[40] = 5;
     header[44..46].copy_from_slice(&0x800Cu16.to_le_bytes());
     header[48..50].copy_from_slice(&0x6610u16.to_le_bytes());
     bytes.extend_from_slice(&header);
@@ -316,7 +316,7 @@ fn every_value_of_a_full_section() {
     assert!(!section.flags().has(PropertiesFlags::NA));
     assert_eq!((section.label_length(), section.message_class()), (Units(2), 2));
     assert_eq!((section.correlation_id(), section.application_tag()), (&[0xCC; 20], 0xDEAD_BEEF));
-    assert_eq!((section.body_type(), section.privacy_level()), (8, 3));
+    assert_eq!((section.body_type(), section.privacy_level()), (8, 5));
     assert_eq!((section.message_size(), section.allocation_body_size()), (1, 9));
     assert_eq!((section.hash_algorithm(), section.encryption_algorithm()), (0x800C, 0x6610));
     assert_eq!((section.label(), section.label_text().to_string()), (&b"a\0\0\0"[..], "a".to_owned()));
@@ -357,7 +357,12 @@ fn decryption_fails_by_the_pair() {
     };
     for (level, eb) in (0..8).flat_map(|level| [(level, SecurityFlags::EB), (level, 0)]) {
         let security_flags = SecurityFlags(SecurityFlags::DP | eb);
-        let values = SectionValues { first: SecurityHeader, security_flags, privacy_level: level, ..Default::default() };
+        let values = SectionValues {
+            first: SecurityHeader,
+            security_flags,
+            privacy_level: level,
+            ..Default::default()
+        };
         for algorithm in 0x6600..0x6803 {
             let values = SectionValues { encryption_key: b"k", encryption_algorithm: algorithm, ..values };
             let bytes = write_section_vec(&values).unwrap();

@@ -181,14 +181,15 @@ typedef struct ugb_properties_parts {
     size_t section_length; /* the whole section's length in bytes, the padding at its end included */
 } ugb_properties_parts;
 
-/* 01's summary. Label and provider name are had through their parts. The two verdicts refuse nothing. */
+/* 01's summary. Label and provider name are had through their parts. The two verdicts refuse nothing. Privacy levels 1
+ * and 3 allow RC2 and RC4 (0x6602, 0x6801), level 5 allows AES (0x660E, 0x660F, 0x6610); no other level allows any. */
 typedef struct ugb_summary {
     bool security_first;              /* whether a SecurityHeader stands first, as the caller said */
     ugb_security_header security;     /* the SecurityHeader */
     ugb_properties_fields properties; /* the MessagePropertiesHeader's fields */
     ugb_properties_parts parts;       /* the MessagePropertiesHeader's parts */
     bool authentication_fails;        /* PrivacyLevel, or HashAlgorithm beside a signature, is none of those listed */
-    bool decryption_fails;            /* EB is set, and EncryptionAlgorithm is none that PrivacyLevel allows in 003 */
+    bool decryption_fails;            /* EB is set, and EncryptionAlgorithm is none that PrivacyLevel allows */
 } ugb_summary;
 
 /* 01's full reading. Private parts are had through their parts. */

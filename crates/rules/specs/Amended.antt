@@ -33,10 +33,10 @@ withDecryption d m =
     summaryWith (record { «authentication_fails» = m .«authentication_fails»; «decryption_fails» = d })
     (m .«security_first») (m .security) (m .properties) (m .parts)
 
--- C-14
+-- C-14, sentence by sentence
 pub record DecryptionAmended : Type 0 where
   -- "A partner's message had level 5 with RC4, and our sheet called it fit to decrypt."
-  pub partner : (s : SecurityFields) (p : PropertiesFields) → EB s ≡ 1 → p .«privacy_level» ≡ 5 → p .«encryption_algorithm» ≡ 0x6801
+  pub rc4AtLevel5 : (s : SecurityFields) (p : PropertiesFields) → EB s ≡ 1 → p .«privacy_level» ≡ 5 → p .«encryption_algorithm» ≡ 0x6801
       → (baseDecryptionFails s p ≡ false) × (decryptionFails s p ≡ true)
   -- "Decryption now fails also ..": it fails wherever it failed in 01
   pub also : (s : SecurityFields) (p : PropertiesFields) → baseDecryptionFails s p ≡ true → decryptionFails s p ≡ true

@@ -62,6 +62,7 @@ noSecurity =
       «provider_type» = 0;
     }
 
+-- what was read, with these verdicts on it
 abbrev pub summaryWith : Verdicts → Bool → SecurityHeader → PropertiesFields → PropertiesParts → Summary
 summaryWith v first h f parts =
     record {

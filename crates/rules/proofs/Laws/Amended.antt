@@ -3,7 +3,7 @@ use Prim.Native.Nat.{ℕ}
 use mathlib.Core.Path.{_≡_, refl, sym, _∙_}
 use mathlib.Core.Bool.{Bool, true, false, not, _&&_, _||_, true≢false, and-eq-true-iff, and-false}
 use mathlib.Core.List.{List, [], _∷_}
-use borrow.Author.Tests.{eqb-true}
+use borrow.Author.Tests.{eqb-true, not-true}
 use lib.Dec.{eqb}
 use Rattle.rules.specs.Amended.{DecryptionAmended, baseDecryptionFails, baseSummaryOf, encryptionAlgorithms, withDecryption}
 use Rattle.rules.specs.Listed.{encryptionPairs, listed, paired}
@@ -53,10 +53,6 @@ fails : (s : SecurityFields) (p : PropertiesFields) → eqb (EB s) 1 ≡ true
 unfolding decryptionFails
 fails s p e f = rw (e, unpaired (p .«privacy_level») (p .«encryption_algorithm») f)
 
-not-true : (b : Bool) → not b ≡ true → b ≡ false
-not-true true e = absurd (true≢false (sym e))
-not-true false e = refl
-
 failed-before : (s : SecurityFields) (p : PropertiesFields) → baseDecryptionFails s p ≡ true → decryptionFails s p ≡ true
 unfolding baseDecryptionFails
 failed-before s p e =
@@ -64,11 +60,16 @@ failed-before s p e =
     let both = and-eq-true-iff (eqb (EB s) 1) (not isListed) .0 e in
     fails s p (both .0) (rw (not-true isListed (both .1)) (and-false (listed levels (p .«privacy_level»))))
 
+rc4-at-level-5 : (s : SecurityFields) (p : PropertiesFields) → EB s ≡ 1 → p .«privacy_level» ≡ 5 → p .«encryption_algorithm» ≡ 0x6801
+    → (baseDecryptionFails s p ≡ false) × (decryptionFails s p ≡ true)
+unfolding baseDecryptionFails listed encryptionAlgorithms decryptionFails paired encryptionPairs
+rc4-at-level-5 s p e level algorithm = (rw (e, algorithm), rw (e, level, algorithm))
+
 pub decryption-amended : DecryptionAmended
-unfolding decryptionFails baseDecryptionFails encryptionAlgorithms listed encryptionPairs paired summaryOf verdictsOf baseSummaryOf withDecryption
+unfolding decryptionFails summaryOf verdictsOf baseSummaryOf withDecryption
 decryption-amended =
     record {
-      partner = λ s p e level algorithm. (rw (e, algorithm), rw (e, level, algorithm));
+      rc4AtLevel5 = rc4-at-level-5;
       also = failed-before;
       level = λ s p e f. fails s p (rw e) (rw f);
       clear = λ s p e. rw e;

@@ -1,4 +1,4 @@
--- A row of the table for each arm; a level that has no row is in no pair.
+-- Each arm has the rows of its levels; a level that has no row is in no pair.
 use Prim.Native.Nat.{ℕ}
 use mathlib.Core.Path.{_≡_}
 use mathlib.Core.Bool.{false, _||_, or-assoc, or-false}

@@ -45,7 +45,7 @@ extern "C" {
 /* ---- Refusals */
 
 /* Every refusal: its name behind UGB_, its number, and the rule that was broken. A section is read with 1 to 12 and
- * written with 28, 2 to 4 and 6 to 12; a request is refused with 8, 10, 11 and 20 to 28; an image is read with 1 (under
+ * written with 28, 2 to 4 and 6 to 12; a request is refused with 8, 10, 11 and 20 to 29; an image is read with 1 (under
  * 4 bytes) and 30 to 33, and written with 30 to 33; 13 comes last in every call that writes. */
 #define UGB_REFUSALS(X)                                                                                                \
     X(INPUT_SHORT, 1, "input ends before the section does")                                                            \
@@ -72,6 +72,7 @@ extern "C" {
       "default provider without type 1, or another provider without a name of 1 to 1,024 units")                       \
     X(SPLIT_NUMBER, 27, "split number minus name length below 1 or above the signature bytes given")                   \
     X(PART_TOO_LARGE, 28, "key, signature or certificate above 65,535 bytes")                                          \
+    X(RETIRED, 29, "privacy 1, or signature bytes given with hash MD2, MD4 or MD5")                                    \
     X(QUEUE_TYPE, 30, "queue type above 8")                                                                            \
     X(QUEUE_SUFFIX, 31, "suffix and flags do not go with the queue type")                                              \
     X(QUEUE_VALUE, 32, "value length wrong for the queue type")                                                        \
@@ -190,6 +191,7 @@ typedef struct ugb_summary {
     ugb_properties_parts parts;       /* the MessagePropertiesHeader's parts */
     bool authentication_fails;        /* PrivacyLevel, or HashAlgorithm beside a signature, is none of those listed */
     bool decryption_fails;            /* EB is set, and EncryptionAlgorithm is none that PrivacyLevel allows */
+    bool retired;                     /* PrivacyLevel is 1, or HashAlgorithm beside a signature is MD2, MD4 or MD5 */
 } ugb_summary;
 
 /* 01's full reading. Private parts are had through their parts. */

@@ -104,6 +104,13 @@ impl<'a> Reading<'a> {
         self.answer.section.summary.decryption_fails
     }
 
+    /// The verdict "retired": PrivacyLevel is 1, or a signature is present with HashAlgorithm MD2, MD4 or MD5
+    /// (0x8001, 0x8002, 0x8003). A request for such a section is refused with 29.
+    #[inline]
+    pub fn retired(&self) -> bool {
+        self.answer.section.summary.retired
+    }
+
     /// The SecurityHeader's Flags; zero where there is none.
     #[inline]
     pub fn security_flags(&self) -> SecurityFlags {

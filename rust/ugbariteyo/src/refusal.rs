@@ -6,7 +6,7 @@ use std::fmt;
 /// Why a call was refused, and where.
 #[derive(Debug, Clone, Copy, PartialEq, Eq, Hash)]
 pub struct Refusal {
-    /// The number of the refusal: 1 to 13, 20 to 28 or 30 to 33.
+    /// The number of the refusal: 1 to 13 or 20 to 33.
     pub number: u32,
     /// The offset of the header being read, or that would be written. 0 for 13 and 28, for requests and for
     /// queue formats.
@@ -81,6 +81,7 @@ kinds! {
     RequestProvider = 26, "default provider without type 1, or another provider without a name of 1 to 1,024 units";
     SplitNumber = 27, "split number minus name length below 1 or above the signature bytes given";
     PartTooLarge = 28, "key, signature or certificate above 65,535 bytes";
+    Retired = 29, "privacy 1, or signature bytes given with hash MD2, MD4 or MD5";
     QueueType = 30, "queue type above 8";
     QueueSuffix = 31, "suffix and flags do not go with the queue type";
     QueueValue = 32, "value length wrong for the queue type";

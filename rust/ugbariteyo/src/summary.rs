@@ -76,6 +76,8 @@ pub struct Summary<'a> {
     pub authentication_fails: bool,
     /// The verdict "decryption fails": [`Reading::decryption_fails`](crate::Reading::decryption_fails).
     pub decryption_fails: bool,
+    /// The verdict "retired": [`Reading::retired`](crate::Reading::retired).
+    pub retired: bool,
     /// The label.
     pub label: Text<'a>,
 }
@@ -104,6 +106,7 @@ impl<'a> Summary<'a> {
             section_length: parts.section_length,
             authentication_fails: summary.authentication_fails,
             decryption_fails: summary.decryption_fails,
+            retired: summary.retired,
             label: Text::new(found(parts.label, input)),
         }
     }

@@ -69,6 +69,7 @@ pub(crate) struct Summary {
     pub parts: PropertiesParts,
     pub authentication_fails: bool,
     pub decryption_fails: bool,
+    pub retired: bool,
 }
 
 #[repr(C)]
@@ -102,7 +103,8 @@ layout! {
     };
     PropertiesParts: 56 { label: 0, extension: 16, body: 32, section_length: 48 };
     Summary: 272 {
-        security_first: 0, security: 8, properties: 152, parts: 208, authentication_fails: 264, decryption_fails: 265
+        security_first: 0, security: 8, properties: 152, parts: 208, authentication_fails: 264, decryption_fails: 265,
+        retired: 266
     };
     Section: 296 { summary: 0, correlation_id: 272, application_tag: 288 };
     Reading: 312 { refusal: 0, section: 16 };

@@ -35,9 +35,9 @@ extern "C" {
 #endif
 
 #define UGB_VERSION_MAJOR 1
-#define UGB_VERSION_MINOR 0
+#define UGB_VERSION_MINOR 1
 #define UGB_VERSION_PATCH 0
-#define UGB_VERSION "1.0.0"
+#define UGB_VERSION "1.1.0"
 
 /* 01: a section has at most so many bytes. */
 #define UGB_LIMIT 4194304
@@ -347,8 +347,8 @@ typedef struct ugb_request {
     ugb_number message_class;        /* class */
     ugb_number acknowledge;          /* acknowledge, 0 to 15: the properties Flags */
     ugb_number application_tag;      /* tag */
-    ugb_number privacy_level;        /* privacy, 0, 1 or 2; a packet holds 0, 1 or 3 */
-    ugb_number hash_algorithm;       /* hash */
+    ugb_number privacy_level;        /* privacy, 0 or 2, of which a packet holds 0 or 3; 1, 40-bit, is retired */
+    ugb_number hash_algorithm;       /* hash; beside a signature MD2, MD4 and MD5 are retired */
     ugb_number encryption_algorithm; /* encryption algorithm */
     ugb_number body_type;            /* body type */
     ugb_number sender_kind;          /* sender kind, 0 to 2 */
@@ -406,7 +406,7 @@ typedef struct ugb_properties {
     uint32_t message_class;        /* class */
     uint32_t acknowledge;          /* acknowledge */
     uint32_t application_tag;      /* tag */
-    uint32_t privacy_level;        /* the request's 0, 1 or 2 */
+    uint32_t privacy_level;        /* the request's 0 or 2 */
     uint32_t hash_algorithm;       /* hash */
     uint32_t encryption_algorithm; /* encryption algorithm */
     uint32_t body_type;            /* body type */
@@ -417,7 +417,7 @@ typedef struct ugb_properties {
 } ugb_properties;
 
 typedef struct ugb_defaulted_answer {
-    ugb_refusal refusal;        /* 0, 8, 10, 11 or 20 to 28, at place 0 */
+    ugb_refusal refusal;        /* 0, 8, 10, 11 or 20 to 29, at place 0 */
     ugb_properties properties;  /* the defaulted properties; all zero where refused */
     uint8_t correlation_id[20]; /* the CorrelationID, zero where absent or refused */
 } ugb_defaulted_answer;

@@ -104,6 +104,7 @@ static void check_summary(ugb_summary summary)
     SAME(summary.parts.section_length, SECTION_LENGTH);
     SAME(summary.authentication_fails, false);
     SAME(summary.decryption_fails, false);
+    SAME(summary.retired, false);
 }
 
 /* What was read is written again. */
@@ -187,6 +188,25 @@ static void check_verdicts(void)
                 v.encryption_algorithm = aes[i];
                 check_verdict(v, !listed, eb && level != 5);
             }
+        }
+    }
+}
+
+/* Retired: privacy level 1, or MD2, MD4 or MD5 beside a signature. From PROPERTIES_AT on, the section without its
+ * SecurityHeader is read. */
+static void check_retired(void)
+{
+    ugb_section_values v = values;
+    for (v.privacy_level = 0; v.privacy_level <= 6; v.privacy_level++) {
+        bool weak = v.privacy_level == 1;
+        for (v.hash_algorithm = 0x8000; v.hash_algorithm <= 0x8005; v.hash_algorithm++) {
+            bool md = v.hash_algorithm >= 0x8001 && v.hash_algorithm <= 0x8003;
+            pattern();
+            written(write_whole(v, sizeof certificate, sizeof out), SECTION_LENGTH);
+            SAME(ugb_summarize(out, SECTION_LENGTH, true).summary.retired, weak || md);
+            ugb_summarized second = ugb_summarize(out + PROPERTIES_AT, SECTION_LENGTH - PROPERTIES_AT, false);
+            same_refusal(second.refusal, UGB_ACCEPTED, 0);
+            SAME(second.summary.retired, weak);
         }
     }
 }
@@ -399,6 +419,7 @@ int main(void)
 {
     check_whole();
     check_verdicts();
+    check_retired();
     check_writer_refuses();
     check_properties_examples();
     check_security_examples();

@@ -146,6 +146,10 @@ static void check_refused(void)
     request_refused(defaulted(q, 1, 6, 10), UGB_ALGORITHM_ABSENT);
     q = whole, q.hash_algorithm.given = false;
     request_refused(defaulted(q, 1, 6, 10), UGB_HASH_ABSENT);
+    q = whole, q.privacy_level.number = 1;
+    request_refused(defaulted(q, 1, 6, 10), UGB_RETIRED);
+    q = whole, q.hash_algorithm.number = 0x8003;
+    request_refused(defaulted(q, 1, 6, 10), UGB_RETIRED);
     q = whole, q.sender_kind.number = 2;
     request_refused(defaulted(q, 1, 6, 10), UGB_REQUEST_IDENTITY);
     request_refused(defaulted(whole, 0, 6, 10), UGB_REQUEST_PROVIDER);

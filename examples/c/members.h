@@ -26,7 +26,7 @@
     X(at.security_first)                                                                                               \
     SECURITY_HEADER(X, at.security)                                                                                    \
     PROPERTIES_FIELDS(X, at.properties)                                                                                \
-    PROPERTIES_PARTS(X, at.parts) X(at.authentication_fails) X(at.decryption_fails)
+    PROPERTIES_PARTS(X, at.parts) X(at.authentication_fails) X(at.decryption_fails) X(at.retired)
 
 #define SECTION(X, at) SUMMARY(X, at.summary) PART(X, at.correlation_id) X(at.application_tag)
 

@@ -1,5 +1,6 @@
-/* Sends a signed message and does with its section what receivers do: reads it back, makes its support copy, writes it
- * again, and lists it as a record of a day's file. Prints what each call answered. */
+/* Sends a signed message, with a hash that is retired and with one that is not, and does with its section what receivers
+ * do: reads it back, makes its support copy, writes it again, and lists it as a record of a day's file. Prints what each
+ * call answered. */
 #include <stdio.h>
 #include <stdlib.h>
 #include <string.h>
@@ -17,14 +18,14 @@ static void accepted(const char *what, ugb_refusal refusal)
     exit(1);
 }
 
-static ugb_sent send_signed(void)
+static ugb_sent send_signed(uint32_t hash_algorithm)
 {
     static const uint16_t title[] = {'R', 'e', 's', 'u', 'l', 't', 's'};
     static const uint16_t provider[] = {'S', 'i', 'g', 'n', 'e', 'r'};
     static const uint8_t signature[64] = {1, 2, 3}, body[100] = {4, 5, 6};
     const ugb_request request = {
         .application_tag = {true, 7},
-        .hash_algorithm = {true, 0x8003},
+        .hash_algorithm = {true, hash_algorithm},
         .provider_type = {true, 1},
         .correlation_given = true,
         .correlation_id = {8, 9, 10},
@@ -60,7 +61,10 @@ static ugb_record list_one(size_t length, bool security_first)
 
 int main(void)
 {
-    ugb_sent sent = send_signed();
+    ugb_sent refused = send_signed(0x8003); /* MD5 */
+    printf("with MD5: refused %u: %s\n", (unsigned)refused.refusal.number, ugb_refusal_text(refused.refusal.number));
+
+    ugb_sent sent = send_signed(0x800C); /* SHA-256 */
     accepted("send", sent.refusal);
     printf("sent: %zu bytes, with%s SecurityHeader\n", sent.length, sent.security_first ? " a" : "out a");
 

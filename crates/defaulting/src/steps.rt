@@ -18,6 +18,7 @@ use rules::security::SecurityFields;
 use rules::security::identity_head_fits;
 use rules::security::identity_size_fits;
 use rules::security::part_too_large;
+use rules::verdict::is_retired_hash;
 ghost use mathlib.Core.Path.{_≡_};
 ghost use mathlib.Core.Bool.{not};
 ghost use lib.Dec.{ltb};
@@ -25,7 +26,7 @@ ghost use Rattle.rules.specs.Listed.{classes, listed};
 ghost use Rattle.requests.specs.Defaults.{class, privacy};
 ghost use Rattle.requests.specs.Request.{sendRequest};
 ghost use Rattle.requests.specs.Steps.{algorithmMissing, allocationFails, directPrivacy, hashMissing, identityFails};
-ghost use Rattle.requests.specs.Steps.{isOne, outOfRange, providerFails, refused, requestSteps, splitFails, tooLarge};
+ghost use Rattle.requests.specs.Steps.{isOne, outOfRange, providerFails, refused, requestSteps, retiredRequest, splitFails, tooLarge};
 
 // 1, of the values as they were given: a transaction changes delivery only later.
 fn out_of_range(request: Request) -> bool
@@ -92,6 +93,15 @@ fn hash_missing(request: Request, signature: &[u8]) -> bool
     }
     let hash = request.hash_algorithm;
     !hash.is_given()
+}
+
+// C-21: 40-bit privacy, or signature bytes, before they are cut, with a retired hash.
+fn retired(request: Request, signature: &[u8]) -> bool
+    ensures { λ r. ⌜ r ≡ retiredRequest request (now (signature .entry)) ⌝ }
+{
+    let weak = values::privacy_level(request) == 1;
+    let signed = signature.len() != 0;
+    weak | (signed & is_retired_hash(values::hash_algorithm(request)))
 }
 
 // 3. S10 looks at the kind and at the identity's size alone.
@@ -230,6 +240,8 @@ pub(crate) fn request_steps(
         refused(refusal::ALGORITHM_ABSENT)
     } else if hash_missing(request, signature) {
         refused(refusal::HASH_ABSENT)
+    } else if retired(request, signature) {
+        refused(refusal::RETIRED)
     } else if identity {
         refused(refusal::REQUEST_IDENTITY)
     } else if provider {

@@ -6,7 +6,7 @@ use Rattle.octets.specs.Over.{over}
 use Rattle.octets.specs.Padding.{padded, padding}
 use Rattle.octets.specs.Part.{within}
 use Rattle.octets.specs.Text.{isText, lastOnly, unitBytes, units}
-use Rattle.rules.specs.Listed.{classes, listed}
+use Rattle.rules.specs.Listed.{classes, listed, retiredHashes}
 use Rattle.rules.specs.Output.{writerAnswer, writerOutput}
 use Rattle.rules.specs.Properties.{bodyAt, extensionAt, labelContents, labelText, propertiesFields, propertiesLength, propertiesParts, propertiesSteps, readProperties, propertiesRow}
 use Rattle.rules.specs.Reading.{fieldsAt, headerAt, judge, propertiesNumber, securityHeader, securityNumber, startAt, summarize, summaryAt}
@@ -22,7 +22,7 @@ use Rattle.queues.specs.Steps.{fixedSize, formatSteps, isString, stringStep, va
 use Rattle.requests.specs.Defaults.{allocationOr, beforeZero, bodyOr, correlationOr, encryption, propertiesOf, senderOf, signatureCount, signatureOf, titleOf}
 use Rattle.requests.specs.Request.{isGiven, valueOr}
 use Rattle.requests.specs.Section.{labelWith, packetPrivacy, propertiesAt, propertiesFieldsOf, providerInfo, sectionLength, securityFieldsOf, securityFirst, securityFlags}
-use Rattle.requests.specs.Steps.{algorithmMissing, allocationFails, answerOf, defaulted, directPrivacy, firstFailure, hashMissing, identityFails, outOfRange, providerFails, requestSteps, splitFails, steps, tooLarge}
+use Rattle.requests.specs.Steps.{algorithmMissing, allocationFails, answerOf, defaulted, directPrivacy, firstFailure, from25, hashMissing, identityFails, outOfRange, providerFails, requestSteps, retiredRequest, splitFails, steps, tooLarge, upTo24}
 use Rattle.sending.specs.Send.{answerAfter, givenBy, sendAnswer, sendBytes, valuesOf}
 use Rattle.examples.specs.Examples.{Example, examples, imageTold, labelTold, refusalTold, sectionTold}
 use Rattle.examples.specs.Inputs.{image, nothingGiven, properties, security, text, titled}
@@ -38,6 +38,6 @@ unfolding le toLe padded padding within isText lastOnly unitBytes units classes 
     bodyOr correlationOr encryption propertiesOf senderOf signatureCount signatureOf titleOf isGiven valueOr labelWith
     packetPrivacy propertiesAt propertiesFieldsOf providerInfo sectionLength securityFieldsOf securityFirst
     securityFlags algorithmMissing allocationFails answerOf defaulted directPrivacy firstFailure hashMissing
-    identityFails outOfRange providerFails requestSteps splitFails steps tooLarge answerAfter givenBy sendAnswer sendBytes writerAnswer writerOutput over
+    from25 identityFails outOfRange providerFails requestSteps retiredHashes retiredRequest splitFails steps tooLarge upTo24 answerAfter givenBy sendAnswer sendBytes writerAnswer writerOutput over
     valuesOf examples imageTold labelTold refusalTold sectionTold image nothingGiven properties security text titled
 examples-hold = refl

@@ -111,6 +111,7 @@ fn summary_of(
         parts: properties_parts(properties, security.parts.length),
         authentication_fails: verdicts.authentication_fails,
         decryption_fails: verdicts.decryption_fails,
+        retired: verdicts.retired,
     }
 }
 

@@ -1,8 +1,10 @@
+pub mod Amended
 pub mod Fits
 pub mod Flags
 pub mod Legal
 pub mod NoSecurity
 pub mod Provider
+pub mod Retired
 pub mod Section
 pub mod Signature
 pub mod Text

@@ -1,3 +1,4 @@
+pub mod Amended
 pub mod Defaults
 pub mod Request
 pub mod Section

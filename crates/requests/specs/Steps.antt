@@ -1,17 +1,17 @@
--- 01, "Send requests", "Order": the steps, each of what it looks at, and what the first that fails gives.
+-- 01, "Send requests", "Order": the steps, each of what it looks at, that of C-21 among them, and what the first that fails gives.
 use Prim.Native.Nat.{ℕ}
 use mathlib.Core.Bool.{Bool, true, false, not, _&&_, _||_, cond}
-use mathlib.Core.List.{List, [], _∷_}
+use mathlib.Core.List.{List, [], _∷_, _++_}
 use lib.ListN.{length}
 use lib.Dec.{eqb, ltb}
-use Rattle.rules.specs.Listed.{classes, listed}
+use Rattle.rules.specs.Listed.{classes, listed, retiredHashes}
 use Rattle.rules.specs.Properties.{badAllocation}
 use Rattle.rules.specs.Refusal.{bytes, limit, refusal}
 use Rattle.rules.specs.Security.{identityHead, identitySize, partTooLarge}
 use Rattle.rules.specs.declared.refusal.Checked.{Checked}
 use Rattle.rules.specs.declared.refusal.Checked.the-variants.{Passed, Refused}
 use Rattle.rules.specs.declared.security.SecurityFields.{SecurityFields}
-use Rattle.requests.specs.Defaults.{acknowledge, allocation, auditing, class, count, deliveryGiven, kind, priority, privacy, trace}
+use Rattle.requests.specs.Defaults.{acknowledge, allocation, auditing, class, count, deliveryGiven, hash, kind, priority, privacy, trace}
 use Rattle.requests.specs.Defaults.{bodyOf, properties, signatureOf}
 use Rattle.requests.specs.Request.{SendRequest, isGiven}
 use Rattle.requests.specs.Section.{sectionLength, signed}
@@ -36,6 +36,10 @@ algorithmMissing v = isGiven (v .«privacy_level») && not (isGiven (v .«encryp
 
 unfoldable pub hashMissing : Request → List ℕ → Bool
 hashMissing v signature = signed signature && not (isGiven (v .«hash_algorithm»))
+
+-- C-21: "retired privacy, then retired hash where the request is signed"
+unfoldable pub retiredRequest : Request → List ℕ → Bool
+retiredRequest v signature = eqb (privacy v) 1 || (signed signature && listed retiredHashes (hash v))
 
 -- 3: "kind above 2 or identity not as S6 and S10", which look at the kind and at the identity's size
 abbrev pub identityFields : ℕ → ℕ → SecurityFields
@@ -86,22 +90,31 @@ tooLarge v key signature certificate = partTooLarge (length key) (length (signat
 unfoldable pub allocationFails : Request → List ℕ → Bool
 allocationFails v body = badAllocation (length (bodyOf v body)) (allocation v)
 
--- each step: whether it fails, and its number
-unfoldable pub steps : SendRequest → List (Bool × ℕ)
-steps q =
+-- each step: whether it fails, and its number; 1 and 2
+unfoldable pub upTo24 : SendRequest → List (Bool × ℕ)
+upTo24 q =
     (outOfRange (q .values), 20)  -- 1
     ∷ (not (listed classes (class (q .values))), 10)
     ∷ (ltb 2 (privacy (q .values)), 21)  -- 2: "Privacy not 0, 1, 2"
     ∷ (directPrivacy (q .values), 22)
     ∷ (algorithmMissing (q .values), 23)
     ∷ (hashMissing (q .values) (q .signature), 24)
-    ∷ (identityFails (q .values) (q .senderId), 25)  -- 3
+    ∷ []
+
+-- 3 to 6
+unfoldable pub from25 : SendRequest → List (Bool × ℕ)
+from25 q =
+    (identityFails (q .values) (q .senderId), 25)  -- 3
     ∷ (providerFails (q .values) (q .signature) (q .providerName), 26)  -- 4
     ∷ (splitFails (q .values) (q .signature), 27)  -- 5
     ∷ (tooLarge (q .values) (q .encryptionKey) (q .signature) (q .senderCert), 28)  -- 6
     ∷ (allocationFails (q .values) (q .body), 11)
     ∷ (ltb limit (sectionLength q), 8)
     ∷ []
+
+-- C-21, "right after 24"
+unfoldable pub steps : SendRequest → List (Bool × ℕ)
+steps q = upTo24 q ++ ((retiredRequest (q .values) (q .signature), 29) ∷ from25 q)
 
 -- a request is refused at place 0
 abbrev pub refused : ℕ → Checked

@@ -6,7 +6,7 @@ use mathlib.Core.List.{List, [], _∷_}
 use lib.Dec.{eqb}
 use Rattle.rules.specs.Listed.{listed}
 use Rattle.rules.specs.Security.{EB}
-use Rattle.rules.specs.Summary.{authenticationFails, decryptionFails, summaryOf, summaryWith}
+use Rattle.rules.specs.Summary.{authenticationFails, decryptionFails, retired, summaryOf, summaryWith}
 use Rattle.rules.specs.declared.properties.PropertiesFields.{PropertiesFields}
 use Rattle.rules.specs.declared.properties.PropertiesParts.{PropertiesParts}
 use Rattle.rules.specs.declared.section.Summary.{Summary}
@@ -20,22 +20,25 @@ encryptionAlgorithms = 0x6602 ∷ 0x660E ∷ 0x660F ∷ 0x6610 ∷ 0x6801 ∷ []
 unfoldable pub baseDecryptionFails : SecurityFields → PropertiesFields → Bool
 baseDecryptionFails s p = eqb (EB s) 1 && not (listed encryptionAlgorithms (p .«encryption_algorithm»))
 
--- the summary as 01 has it
+-- the summary as 01 has it, where nothing is retired
 unfoldable pub baseSummaryOf : Bool → SecurityHeader → PropertiesFields → PropertiesParts → Summary
 baseSummaryOf first h f parts =
     summaryWith
-    (record { «authentication_fails» = authenticationFails (h .fields) f; «decryption_fails» = baseDecryptionFails (h .fields) f })
+    (record {
+      «authentication_fails» = authenticationFails (h .fields) f;
+      «decryption_fails» = baseDecryptionFails (h .fields) f;
+      retired = false;
+    })
     first h f parts
 
--- a summary with d in the place of its verdict on decryption
-unfoldable pub withDecryption : Bool → Summary → Summary
-withDecryption d m =
-    summaryWith (record { «authentication_fails» = m .«authentication_fails»; «decryption_fails» = d })
+-- a summary with d in the place of its verdict on decryption, and r of that on what is retired
+unfoldable pub withVerdicts : Bool → Bool → Summary → Summary
+withVerdicts d r m =
+    summaryWith (record { «authentication_fails» = m .«authentication_fails»; «decryption_fails» = d; retired = r })
     (m .«security_first») (m .security) (m .properties) (m .parts)
 
--- C-14, sentence by sentence
-pub record DecryptionAmended : Type 0 where
-  -- "A partner's message had level 5 with RC4, and our sheet called it fit to decrypt."
+pub record VerdictsAmended : Type 0 where
+  -- C-14, "A partner's message had level 5 with RC4, and our sheet called it fit to decrypt."
   pub rc4AtLevel5 : (s : SecurityFields) (p : PropertiesFields) → EB s ≡ 1 → p .«privacy_level» ≡ 5 → p .«encryption_algorithm» ≡ 0x6801
       → (baseDecryptionFails s p ≡ false) × (decryptionFails s p ≡ true)
   -- "Decryption now fails also ..": it fails wherever it failed in 01
@@ -45,6 +48,6 @@ pub record DecryptionAmended : Type 0 where
       → decryptionFails s p ≡ true
   -- "when EB is set": where it is clear, never
   pub clear : (s : SecurityFields) (p : PropertiesFields) → EB s ≡ 0 → decryptionFails s p ≡ false
-  -- "in summaries only this verdict changes": the summary is 01's with this verdict in the place of 01's
+  -- "in summaries only this verdict changes", and C-21, "the summary gets a yes or no for retired": it is 01's but for these two
   pub summary : (first : Bool) (h : SecurityHeader) (f : PropertiesFields) (parts : PropertiesParts)
-      → summaryOf first h f parts ≡ withDecryption (decryptionFails (h .fields) f) (baseSummaryOf first h f parts)
+      → summaryOf first h f parts ≡ withVerdicts (decryptionFails (h .fields) f) (retired (h .fields) f) (baseSummaryOf first h f parts)

@@ -1,4 +1,4 @@
--- 01's lists of numbers, and the table of C-14.
+-- 01's lists of numbers, the table of C-14 and the hashes of C-21.
 use Prim.Native.Nat.{ℕ}
 use mathlib.Core.List.{List, [], _∷_}
 use mathlib.Core.Bool.{Bool, false, _&&_, _||_}
@@ -34,3 +34,7 @@ encryptionPairs =
 unfoldable pub paired : List (ℕ × ℕ) → ℕ → ℕ → Bool
 paired [] level algorithm = false
 paired (p ∷ ps) level algorithm = (eqb level (p .0) && eqb algorithm (p .1)) || paired ps level algorithm
+
+-- C-21, "MD2, MD4 and MD5 hashes"
+unfoldable pub retiredHashes : List ℕ
+retiredHashes = 0x8001 ∷ 0x8002 ∷ 0x8003 ∷ []

@@ -1,4 +1,4 @@
--- 01's two verdicts, and the summary of what was read.
+-- The verdicts, 01's two and that of C-21, and the summary of what was read.
 use Prim.Native.Nat.{ℕ, _+_}
 use mathlib.Core.Bool.{Bool, not, _&&_, _||_}
 use mathlib.Core.List.{List}
@@ -6,7 +6,7 @@ use lib.ListN.{drop}
 use lib.Dec.{eqb, ltb}
 use Rattle.octets.specs.Number.{le}
 use Rattle.octets.specs.Part.{within}
-use Rattle.rules.specs.Listed.{listed, privacyLevels, hashAlgorithms, encryptionPairs, paired}
+use Rattle.rules.specs.Listed.{listed, privacyLevels, hashAlgorithms, encryptionPairs, paired, retiredHashes}
 use Rattle.rules.specs.Refusal.{bytes}
 use Rattle.rules.specs.Security.{part, EB}
 use Rattle.rules.specs.declared.section.Part.{Part}
@@ -18,18 +18,27 @@ use Rattle.rules.specs.declared.properties.PropertiesFields.{PropertiesF
 use Rattle.rules.specs.declared.properties.PropertiesParts.{PropertiesParts}
 use Rattle.rules.specs.declared.verdict.Verdicts.{Verdicts}
 
+-- "a signature is present"
+abbrev pub signaturePresent : SecurityFields → Bool
+signaturePresent s = ltb 0 (s .«signature_size» .0)
+
 -- "PrivacyLevel is none of 0, 1, 3, 5, or a signature is present and HashAlgorithm is none of .."
 unfoldable pub authenticationFails : SecurityFields → PropertiesFields → Bool
 authenticationFails s p =
     not (listed privacyLevels (p .«privacy_level»))
-    || (ltb 0 (s .«signature_size» .0) && not (listed hashAlgorithms (p .«hash_algorithm»)))
+    || (signaturePresent s && not (listed hashAlgorithms (p .«hash_algorithm»)))
 
 -- C-14, "when EB is set and the pair is not in that table"
 unfoldable pub decryptionFails : SecurityFields → PropertiesFields → Bool
 decryptionFails s p = eqb (EB s) 1 && not (paired encryptionPairs (p .«privacy_level») (p .«encryption_algorithm»))
 
+-- C-21, "PrivacyLevel is 1, or a signature is present with hash 0x8001, 0x8002 or 0x8003"
+unfoldable pub retired : SecurityFields → PropertiesFields → Bool
+retired s p = eqb (p .«privacy_level») 1 || (signaturePresent s && listed retiredHashes (p .«hash_algorithm»))
+
 unfoldable pub verdictsOf : SecurityFields → PropertiesFields → Verdicts
-verdictsOf s p = record { «authentication_fails» = authenticationFails s p; «decryption_fails» = decryptionFails s p }
+verdictsOf s p =
+    record { «authentication_fails» = authenticationFails s p; «decryption_fails» = decryptionFails s p; retired = retired s p }
 
 -- the bytes of a part
 abbrev pub partOf : List ℕ → Part → List ℕ
@@ -72,6 +81,7 @@ summaryWith v first h f parts =
       parts = parts;
       «authentication_fails» = v .«authentication_fails»;
       «decryption_fails» = v .«decryption_fails»;
+      retired = v .retired;
     }
 
 unfoldable pub summaryOf : Bool → SecurityHeader → PropertiesFields → PropertiesParts → Summary

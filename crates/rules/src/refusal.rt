@@ -60,6 +60,8 @@ pub const SPLIT_NUMBER: u32 = 27;
 
 pub const PART_TOO_LARGE: u32 = 28;
 
+pub const RETIRED: u32 = 29;
+
 pub const QUEUE_TYPE: u32 = 30;
 
 pub const QUEUE_SUFFIX: u32 = 31;

@@ -21,7 +21,7 @@ pub struct Part {
     pub length: Bytes,
 }
 
-// 01's summary: every judged field, the parts and both verdicts. Label and provider name are read through their parts.
+// 01's summary: every judged field, the parts and the verdicts. Label and provider name are read through their parts.
 #[repr(C)]
 pub struct Summary {
     pub security_first: bool,
@@ -30,6 +30,7 @@ pub struct Summary {
     pub parts: PropertiesParts,
     pub authentication_fails: bool,
     pub decryption_fails: bool,
+    pub retired: bool,
 }
 
 pub enum Summarized {

@@ -1,14 +1,15 @@
-// 01's two verdicts, decryption's as C-14 has it, which go with an acceptance and refuse nothing.
+// The verdicts, which go with an acceptance and refuse nothing: 01's two, decryption's as C-14 has it, and C-21's.
 use crate::properties::PropertiesFields;
 use crate::security::EB;
 use crate::security::SecurityFields;
 ghost use mathlib.Core.Path.{_≡_};
-ghost use Rattle.rules.specs.Listed.{listed, privacyLevels, hashAlgorithms, encryptionPairs, paired};
-ghost use Rattle.rules.specs.Summary.{authenticationFails, decryptionFails, verdictsOf};
+ghost use Rattle.rules.specs.Listed.{listed, privacyLevels, hashAlgorithms, encryptionPairs, paired, retiredHashes};
+ghost use Rattle.rules.specs.Summary.{authenticationFails, decryptionFails, retired, signaturePresent, verdictsOf};
 
 pub struct Verdicts {
     pub authentication_fails: bool,
     pub decryption_fails: bool,
+    pub retired: bool,
 }
 
 fn is_privacy_level(level: u32) -> bool
@@ -44,12 +45,27 @@ fn is_paired(level: u32, algorithm: u32) -> bool
     }
 }
 
+// C-21: MD2, MD4, MD5.
+pub fn is_retired_hash(algorithm: u32) -> bool
+    ensures { λ r. ⌜ r ≡ listed retiredHashes algorithm ⌝ }
+{
+    match algorithm {
+        0x8001..=0x8003 => true,
+        _ => false,
+    }
+}
+
+fn signature_present(security: SecurityFields) -> bool
+    ensures { λ r. ⌜ r ≡ signaturePresent security ⌝ }
+{
+    0 < security.signature_size.0
+}
+
 fn authentication_fails(security: SecurityFields, properties: PropertiesFields) -> bool
     ensures { λ r. ⌜ r ≡ authenticationFails security properties ⌝ }
 {
-    let signed = 0 < security.signature_size.0;
     !is_privacy_level(properties.privacy_level)
-        | (signed & !is_hash_algorithm(properties.hash_algorithm))
+        | (signature_present(security) & !is_hash_algorithm(properties.hash_algorithm))
 }
 
 fn decryption_fails(security: SecurityFields, properties: PropertiesFields) -> bool
@@ -59,11 +75,20 @@ fn decryption_fails(security: SecurityFields, properties: PropertiesFields) -> b
     encrypted & !is_paired(properties.privacy_level, properties.encryption_algorithm)
 }
 
+// C-21: 40-bit privacy, or a signature with a retired hash.
+fn retired(security: SecurityFields, properties: PropertiesFields) -> bool
+    ensures { λ r. ⌜ r ≡ retired security properties ⌝ }
+{
+    (properties.privacy_level == 1)
+        | (signature_present(security) & is_retired_hash(properties.hash_algorithm))
+}
+
 pub fn verdicts_of(security: SecurityFields, properties: PropertiesFields) -> Verdicts
     ensures { λ r. ⌜ r ≡ verdictsOf security properties ⌝ }
 {
     Verdicts {
         authentication_fails: authentication_fails(security, properties),
         decryption_fails: decryption_fails(security, properties),
+        retired: retired(security, properties),
     }
 }

@@ -20,6 +20,7 @@ use Rattle.sending.specs.Send.{answerAfter, givenBy, sendAnswer, sendByt
 use Rattle.sending.specs.Theorems.{Sending, Typed}
 use Rattle.sending.proofs.Laws.Carried.{read-back}
 use Rattle.sending.proofs.Laws.Given.{request-placed, wellFormed-by}
+use Rattle.sending.proofs.Laws.Retired.{read-clear}
 use Rattle.sending.proofs.Laws.Send.{gets}
 
 -- with room it is sent, and the output holds the section, and behind it what it held
@@ -49,6 +50,10 @@ sending =
       readBack =
           λ q p id out t e room. rw (held q p id out e room)
           (read-back q p id (drop (length (sectionBytes (givenBy q id))) out) t (gets q p e));
+      notRetired =
+          λ q p id out r t e room read.
+          let s = sectionBytes (givenBy q id) in
+          read-clear q id (drop (length s) out) r t (gets q p e .legal) (rw (← held q p id out e room) read);
       behind =
           λ q p id out t e room.
           let s = sectionBytes (givenBy q id) in

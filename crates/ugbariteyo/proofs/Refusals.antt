@@ -30,7 +30,7 @@ use Rattle.queues.specs.declared.image.ImageRead.the-variants.{Accepted as Imag
 use Rattle.requests.specs.Defaults.{correlationOf, properties}
 use Rattle.requests.specs.Request.{SendRequest}
 use Rattle.requests.specs.Section.{first, sectionLength}
-use Rattle.requests.specs.Steps.{answerOf, defaulted, firstFailure, refused, requestSteps, steps}
+use Rattle.requests.specs.Steps.{answerOf, defaulted, firstFailure, from25, refused, requestSteps, steps, upTo24}
 use Rattle.requests.specs.declared.properties.Defaulted.the-variants.{Properties as Defaulted·Properties}
 use Rattle.sending.specs.Send.{answerAfter, sendAnswer}
 use Rattle.records.specs.Record.{answerOf as listingAnswer}
@@ -145,7 +145,7 @@ sending q out Passed h = writer-numbered (refusal 0 0) (sectionLength q) out
 sending q out (Checked·Refused r) h = h
 
 request-numbered : (q : SendRequest) → FailureNumbered (requestSteps q)
-unfolding requestSteps steps numbers
+unfolding requestSteps steps upTo24 from25 numbers
 request-numbered q = failure-numbered (steps q) refl
 
 pub number-tells : NumberTells

@@ -64,6 +64,7 @@ fn no_summary() -> Summary
         },
         authentication_fails: false,
         decryption_fails: false,
+        retired: false,
     }
 }
 

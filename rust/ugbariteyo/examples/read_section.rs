@@ -68,4 +68,5 @@ fn print_section(section: &Reading<'_>) {
     println!("encryption algorithm  {:#x}", section.encryption_algorithm());
     println!("authentication fails  {}", section.authentication_fails());
     println!("decryption fails      {}", section.decryption_fails());
+    println!("retired               {}", section.retired());
 }

@@ -105,7 +105,15 @@ impl<'a> Reading<'a> {
     }
 
     /// The verdict "retired": PrivacyLevel is 1, or a signature is present with HashAlgorithm MD2, MD4 or MD5
-    /// (0x8001, 0x8002, 0x8003). A request for such a section is refused with 29.
+    /// (0x8001, 0x8002, 0x8003). Such a section is read and written; a request for one is refused with 29.
+    ///
+    /// ```
+    /// use ugbariteyo::{read, write_section_vec, SectionValues};
+    ///
+    /// let weak = SectionValues { privacy_level: 1, ..SectionValues::default() };
+    /// let bytes = write_section_vec(&weak).unwrap();
+    /// assert!(read(&bytes, weak.first).unwrap().retired());
+    /// ```
     #[inline]
     pub fn retired(&self) -> bool {
         self.answer.section.summary.retired

@@ -28,9 +28,9 @@ pub struct Request<'a> {
     pub acknowledge: Option<u32>,
     /// The tag.
     pub application_tag: Option<u32>,
-    /// Privacy, 0 to 2. The section's PrivacyLevel is 3 for 2.
+    /// Privacy, 0 or 2; 1, which is 40-bit, is retired. The section's PrivacyLevel is 3 for 2.
     pub privacy_level: Option<u32>,
-    /// The hash algorithm; a signature needs one.
+    /// The hash algorithm; a signature needs one. MD2, MD4 and MD5 (0x8001 to 0x8003) are retired.
     pub hash_algorithm: Option<u32>,
     /// The encryption algorithm; privacy needs one.
     pub encryption_algorithm: Option<u32>,
@@ -182,7 +182,7 @@ pub struct Properties<'a> {
     pub acknowledge: u32,
     /// The tag.
     pub application_tag: u32,
-    /// The request's privacy, 0 to 2.
+    /// The request's privacy, 0 or 2.
     pub privacy_level: u32,
     /// The hash algorithm.
     pub hash_algorithm: u32,
@@ -263,14 +263,17 @@ impl fmt::Debug for Properties<'_> {
 ///
 /// # Errors
 ///
-/// By the steps of a request in their order: 20 and 10, 21 to 28, then 11 and 8. The place is 0.
+/// By the steps of a request in their order: 20 and 10, 21 to 24, 29, 25 to 28, then 11 and 8. The place is 0.
 ///
 /// ```
-/// use ugbariteyo::{defaulted, Request};
+/// use ugbariteyo::{defaulted, Kind, Request};
 ///
 /// let properties = defaulted(&Request { acknowledge: Some(5), ..Request::default() })?;
 /// assert_eq!(properties.handling.map(|handling| handling.priority), Some(3));
 /// assert_eq!(properties.acknowledge, 5);
+///
+/// let md5 = Request { signature: b"signed", hash_algorithm: Some(0x8003), ..Request::default() };
+/// assert_eq!(defaulted(&md5).unwrap_err().kind(), Some(Kind::Retired));
 /// # Ok::<(), ugbariteyo::Refusal>(())
 /// ```
 #[inline]

@@ -333,18 +333,23 @@ fn verdicts_refuse_nothing() {
     let verdicts = |values: &SectionValues<'_>| {
         let bytes = write_section_vec(values).unwrap();
         let section = read(&bytes, values.first).unwrap();
-        (section.authentication_fails(), section.decryption_fails())
+        assert_eq!(write_section_vec(&SectionValues::from(&section)), Ok(bytes.clone()), "it is written again");
+        (section.authentication_fails(), section.decryption_fails(), section.retired())
     };
     let plain = SectionValues::default();
     for level in 0..8 {
         let fails = ![0, 1, 3, 5].contains(&level);
-        assert_eq!(verdicts(&SectionValues { privacy_level: level, ..plain }), (fails, false));
+        assert_eq!(verdicts(&SectionValues { privacy_level: level, ..plain }), (fails, false, level == 1));
     }
     let security_flags = SecurityFlags(SecurityFlags::DP | SecurityFlags::DE);
     let signed = SectionValues { first: SecurityHeader, security_flags, signature: b"s", ..plain };
     for hash in 0x8000..0x8010 {
         let fails = ![0x8001, 0x8002, 0x8003, 0x8004, 0x800C, 0x800E].contains(&hash);
-        assert_eq!(verdicts(&SectionValues { hash_algorithm: hash, ..signed }), (fails, false));
+        let retired = [0x8001, 0x8002, 0x8003].contains(&hash);
+        assert_eq!(verdicts(&SectionValues { hash_algorithm: hash, ..signed }), (fails, false, retired));
+        let unsigned = SectionValues { signature: b"", sender_cert: b"c", hash_algorithm: hash, ..signed };
+        assert_eq!(verdicts(&unsigned), (false, false, false));
+        assert_eq!(verdicts(&SectionValues { hash_algorithm: hash, ..plain }), (false, false, false));
     }
 }
 

@@ -139,11 +139,12 @@ fn steps_in_their_order() {
     let mut request = full(&title, &name);
     // the last step that fails stays while those before it are added
     type Fail = fn(&mut Request<'_>);
-    let steps: [(Kind, Fail); 9] = [
+    let steps: [(Kind, Fail); 10] = [
         (Kind::Allocation, |r| r.body = Some(Body { bytes: b"body", allocation: 3 })),
         (Kind::SplitNumber, |r| r.split_number = Some(4)),
         (Kind::RequestProvider, |r| r.provider_name = &[]),
         (Kind::RequestIdentity, |r| r.sender_kind = Some(2)),
+        (Kind::Retired, |r| r.privacy_level = Some(1)),
         (Kind::HashAbsent, |r| r.hash_algorithm = None),
         (Kind::AlgorithmAbsent, |r| r.encryption_algorithm = None),
         (Kind::PrivacyOnADirectQueue, |r| r.direct_queue = true),
@@ -198,6 +199,32 @@ fn steps_in_their_order() {
     check(&Request { extension: &huge, ..good }, Kind::AboveTheLimit);
     check(&Request { body: Some(Body { bytes: b"", allocation: LIMIT + 1 }), ..good }, Kind::Allocation);
     assert!(send_vec(&Request { signature: &long, ..good }).is_ok(), "the split comes before the size");
+}
+
+#[test]
+fn what_is_retired_is_not_sent() {
+    let (title, name) = (units("Rope 7"), units("Provider"));
+    let good = full(&title, &name);
+    check(&Request { privacy_level: Some(1), ..good }, Kind::Retired);
+    for hash in 0x7FFF..0x8010 {
+        let signed = Request { hash_algorithm: Some(hash), ..good };
+        if [0x8001, 0x8002, 0x8003].contains(&hash) {
+            check(&signed, Kind::Retired);
+            check(&Request { split_number: Some(0), ..signed }, Kind::Retired);
+        } else {
+            assert!(!sent_retired(&signed), "{hash:#x}");
+        }
+        assert!(!sent_retired(&Request { signature: b"", ..signed }), "{hash:#x} of no signature");
+    }
+    for privacy_level in [None, Some(0), Some(2)] {
+        assert!(!sent_retired(&Request { privacy_level, ..good }), "{privacy_level:?}");
+    }
+}
+
+/// The verdict on the section of a request that is sent.
+fn sent_retired(request: &Request<'_>) -> bool {
+    let (section, first) = send_vec(request).unwrap();
+    read(&section, first).unwrap().retired()
 }
 
 /// One part of the four that a SecurityHeader is written for is enough.

@@ -17,8 +17,8 @@ use Rattle.rules.proofs.Laws.Listed.{no-class}
 use Rattle.requests.specs.Defaults.{acknowledge, allocation, auditing, bodyOf, class, deliveryGiven, kind, priority, privacy, signatureOf, trace}
 use Rattle.requests.specs.Request.{SendRequest}
 use Rattle.requests.specs.Section.{packetPrivacy, sectionLength}
-use Rattle.requests.specs.Steps.{allocationFails, identityFails, identityFields, outOfRange, providerFails, splitFails, tooLarge}
-use Rattle.requests.specs.Steps.{firstFailure, requestSteps, steps}
+use Rattle.requests.specs.Steps.{allocationFails, identityFails, identityFields, outOfRange, providerFails, retiredRequest, splitFails, tooLarge}
+use Rattle.requests.specs.Steps.{firstFailure, from25, requestSteps, steps, upTo24}
 
 -- a refusal is no passing
 refused≢ : {r : Refusal} → ¬ (Refused r ≡ Passed)
@@ -44,6 +44,7 @@ pub record RequestPassed (q : SendRequest) : Type 0 where
   pub ranges : outOfRange (q .values) ≡ false
   pub class : listed classes (class (q .values)) ≡ true
   pub privacy : privacy (q .values) ≤ 2
+  pub retired : retiredRequest (q .values) (q .signature) ≡ false
   pub identity : identityFails (q .values) (q .senderId) ≡ false
   pub provider : providerFails (q .values) (q .signature) (q .providerName) ≡ false
   pub split : splitFails (q .values) (q .signature) ≡ false
@@ -52,13 +53,14 @@ pub record RequestPassed (q : SendRequest) : Type 0 where
   pub small : sectionLength q ≤ limit
 
 pub request-passed : (q : SendRequest) → requestSteps q ≡ Passed → RequestPassed q
-unfolding requestSteps steps
+unfolding requestSteps steps upTo24 from25
 request-passed q e =
     let p = all-passed (steps q) e in
     record {
       ranges = search;
       class = not-false (listed classes (class (q .values))) (search);
       privacy = ltb-false 2 (privacy (q .values)) (search);
+      retired = search;
       identity = search;
       provider = search;
       split = search;

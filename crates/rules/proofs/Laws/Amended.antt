@@ -5,7 +5,7 @@ use mathlib.Core.Bool.{Bool, true, false, not, _&&_, _||_, true≢false, and-eq-
 use mathlib.Core.List.{List, [], _∷_}
 use borrow.Author.Tests.{eqb-true, not-true}
 use lib.Dec.{eqb}
-use Rattle.rules.specs.Amended.{DecryptionAmended, baseDecryptionFails, baseSummaryOf, encryptionAlgorithms, withDecryption}
+use Rattle.rules.specs.Amended.{VerdictsAmended, baseDecryptionFails, baseSummaryOf, encryptionAlgorithms, withVerdicts}
 use Rattle.rules.specs.Listed.{encryptionPairs, listed, paired}
 use Rattle.rules.specs.Security.{EB}
 use Rattle.rules.specs.Summary.{decryptionFails, summaryOf, verdictsOf}
@@ -65,9 +65,9 @@ rc4-at-level-5 : (s : SecurityFields) (p : PropertiesFields) → EB s ≡ 1 → 
 unfolding baseDecryptionFails listed encryptionAlgorithms decryptionFails paired encryptionPairs
 rc4-at-level-5 s p e level algorithm = (rw (e, algorithm), rw (e, level, algorithm))
 
-pub decryption-amended : DecryptionAmended
-unfolding decryptionFails summaryOf verdictsOf baseSummaryOf withDecryption
-decryption-amended =
+pub verdicts-amended : VerdictsAmended
+unfolding decryptionFails summaryOf verdictsOf baseSummaryOf withVerdicts
+verdicts-amended =
     record {
       rc4AtLevel5 = rc4-at-level-5;
       also = failed-before;

@@ -108,23 +108,44 @@ first-signed q a some = go (first q) refl
     go true e = refl
     go false e = absurd (some (no-security q a e .providerInfo))
 
+-- the fields that are read, by the request
+pub record FieldsBack (q : SendRequest) (id s : List ℕ) (r : Section) : Type 0 where
+  pub written : ReadsBack (givenBy q id) s r
+  pub passed : SectionPassed (first q) s (r .summary)
+  pub properties : r .summary .properties ≡ propertiesFieldsOf q
+  pub security : first q ≡ true → r .summary .security .fields ≡ securityFieldsOf q
+
+pub fields-back : (q : SendRequest) (id rest : List ℕ) → Typed q id → RequestPassed q
+    → (r : Section) × FieldsBack q id (sectionBytes (givenBy q id) ++ rest) r
+unfolding givenBy valuesOf read
+fields-back q id rest t a =
+    let placed = request-placed q id (t .title) (t .providerName) a in
+    let back = section-back (givenBy q id) rest (wellFormed-by q id t a) (placed .passed) in
+    let s = sectionBytes (givenBy q id) ++ rest in
+    let b = back .1 in (
+      back .0,
+      record {
+        written = b;
+        passed = section-passed (first q) s (back .0 .summary) .0 (read-accepted s (summarize (first q) s) (back .0) (b .reads) .0);
+        properties = b .properties ∙ propertiesGiven-by q id a;
+        security = λ e. b .security e ∙ securityGiven-by q id a;
+      },
+    )
+
 -- of the properties as they are made
 carried : (q : SendRequest) (id rest : List ℕ) → Typed q id → Gets q (properties q)
     → (r : Section) × Carries q (properties q) id (sectionBytes (givenBy q id) ++ rest) r
-unfolding givenBy valuesOf senderOr senderOf propertiesOf read labelOf providerNameOf propertiesFieldsOf securityFieldsOf
+unfolding givenBy valuesOf senderOr senderOf propertiesOf labelOf providerNameOf propertiesFieldsOf securityFieldsOf
 carried q id rest t g =
     let a = g .legal in
-    let placed = request-placed q id (t .title) (t .providerName) a in
-    let written = section-back (givenBy q id) rest (wellFormed-by q id t a) (placed .passed) in
+    let back = fields-back q id rest t a in
     let s = sectionBytes (givenBy q id) ++ rest in
-    let r = written .0 in
-    let b = written .1 in
-    let summary = read-accepted s (summarize (first q) s) r (b .reads) .0 in
-    let p = section-passed (first q) s (r .summary) .0 summary in
+    let r = back .0 in
+    let b = back .1 .written in
+    let p = back .1 .passed in
+    let fields = back .1 .properties in
+    let security = back .1 .security in
     let header = header-back q id s r (first q) a b refl (p .security) in
-    let fields : r .summary .properties ≡ propertiesFieldsOf q = b .properties ∙ propertiesGiven-by q id a in
-    let security : first q ≡ true → r .summary .security .fields ≡ securityFieldsOf q =
-    λ e. b .security e ∙ securityGiven-by q id a in
     let bits = securityFlags-bits (senderValues (q .values) (q .encryptionKey)) (identity-fits q a .kind) in
     let type = type-back (q .values) (q .signature) (q .providerName) (t .providerType) in (
       r,

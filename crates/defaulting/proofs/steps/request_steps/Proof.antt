@@ -7,7 +7,7 @@ use Rattle.octets.proofs.Laws.Steps.{answers, call-false, call-true, passed}
 use Rattle.rules.specs.declared.refusal.Checked.{Checked}
 use Rattle.rules.specs.declared.refusal.Checked.the-variants.{Passed}
 use Rattle.requests.specs.Request.{SendRequest, heldRequest}
-use Rattle.requests.specs.Steps.{firstFailure, refused, requestSteps, steps}
+use Rattle.requests.specs.Steps.{firstFailure, from25, refused, requestSteps, steps, upTo24}
 use Rattle.defaulting.proofs.steps.request_steps.Statement.{statement}
 use Rattle.defaulting.proofs.steps.request_steps.Tie as tie
 
@@ -30,18 +30,20 @@ unfolding requestSteps
 past-none c = (asked c, λ r e. e)
 
 past-direct : tie.After-algorithm-missing → Past 4
-unfolding asked past-none steps firstFailure
+unfolding asked past-none steps upTo24 from25 firstFailure
 past-direct c = let p = past-none (search) in (p .0, λ r e. p .1 r (search calls depth 20))
 
-past-provider : tie.After-split-fails → Past 8
-unfolding asked past-none past-direct steps firstFailure
+past-provider : tie.After-split-fails → Past 9
+unfolding asked past-none past-direct steps upTo24 from25 firstFailure
 past-provider c = let p = past-direct (search) in (p .0, λ r e. p .1 r (search calls depth 20))
 
 pub request-steps-spec : {M : Type 1} → statement M
-unfolding asked past-none past-direct past-provider steps firstFailure
+unfolding asked past-none past-direct past-provider steps upTo24 from25 firstFailure
 request-steps-spec =
     tie.close
     (tie.spec
+    (λ c κs. search needs)
+    (λ c κs. search needs)
     (λ c κs. search needs)
     (λ c κs. search needs)
     (λ c κs. search needs)
@@ -72,6 +74,7 @@ request-steps-spec =
     (λ c. (search) ∙ past-none (search) .1 (refused 22) (search calls depth 20))
     (λ c. (search) ∙ past-direct (search) .1 (refused 23) (search calls depth 20))
     (λ c. (search) ∙ past-direct (search) .1 (refused 24) (search calls depth 20))
+    (λ c. (search) ∙ past-direct (search) .1 (refused 29) (search calls depth 20))
     (λ c. (search) ∙ past-direct (search) .1 (refused 25) (search calls depth 20))
     (λ c. (search) ∙ past-direct (search) .1 (refused 26) (search calls depth 20))
     (λ c. (search) ∙ past-provider (search) .1 (refused 27) (search calls depth 20))

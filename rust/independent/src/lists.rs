@@ -1,4 +1,5 @@
-//! The listed numbers: classes, privacy levels, hash algorithms, and encryption algorithms by level.
+//! The listed numbers: classes, privacy levels, hash algorithms, and encryption algorithms by level;
+//! and those that are retired.
 
 /// Whether P3 passes `class`.
 pub(crate) fn class_is_listed(class: u16) -> bool {
@@ -21,6 +22,16 @@ pub(crate) fn privacy_is_listed(privacy: u32) -> bool {
 /// Whether authentication of a signature can go on with `hash`.
 pub(crate) fn hash_is_listed(hash: u32) -> bool {
     matches!(hash, 0x8001..=0x8004 | 0x800C | 0x800E)
+}
+
+/// Whether `privacy` is retired (C-21): "40-bit privacy", which is 1 in packets and in requests.
+pub(crate) fn privacy_is_retired(privacy: u32) -> bool {
+    privacy == 1
+}
+
+/// Whether a signature with `hash` is retired (C-21): MD2, MD4 and MD5.
+pub(crate) fn hash_is_retired(hash: u32) -> bool {
+    matches!(hash, 0x8001..=0x8003)
 }
 
 /// 003's encryption algorithms.

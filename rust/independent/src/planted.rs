@@ -8,11 +8,11 @@ use crate::bytes::padded;
 use crate::copies::{self, Copies};
 use crate::copy::support_copy_by;
 use crate::listing::{self, Answer, Line, RECORD};
-use crate::lists::encryption_is_allowed;
+use crate::lists::{encryption_is_allowed, hash_is_retired, privacy_is_retired};
 use crate::order::{exchanged, Step};
 use crate::queue::{self, Image};
 use crate::read::read_by;
-use crate::request::{self, Request, SENDING};
+use crate::request::{self, Request, RequestStep, SENDING};
 use crate::section::{Part, PROPERTIES_FIXED};
 use crate::steps::{ENDLESS, READING, WRITING};
 use crate::write::write_by;
@@ -87,7 +87,9 @@ impl WrongVerdict {
     pub const ALL: [Self; 5] =
         [Self::LevelIgnored, Self::LevelZero, Self::LevelTwo, Self::LevelCut, Self::EbIgnored];
 
-    fn fails(self, encrypted: bool, privacy: u32, algorithm: u32) -> bool {
+    fn fails(self, summary: &Summary<'_>) -> bool {
+        let encrypted = is_encrypted(summary);
+        let (privacy, algorithm) = (summary.properties.privacy, summary.properties.encryption);
         let listed = matches!(algorithm, 0x6602 | 0x660E | 0x660F | 0x6610 | 0x6801);
         let allowed = |level| encryption_is_allowed(level, algorithm);
         match self {
@@ -103,10 +105,171 @@ impl WrongVerdict {
 /// Reads with a wrong verdict on decryption.
 pub fn read_verdict(wrong: WrongVerdict, input: &[u8], security_first: bool) -> Result<Section<'_>, Refusal> {
     let mut section = crate::read(input, security_first)?;
-    let Summary { security, properties, .. } = section.summary;
-    let encrypted = security.is_some_and(|security| security.flags.body_encrypted());
-    section.summary.decryption_fails = wrong.fails(encrypted, properties.privacy, properties.encryption);
+    section.summary.decryption_fails = wrong.fails(&section.summary);
     Ok(section)
+}
+
+/// Verdicts on what is retired other than by level 1 and by a signature's hash.
+#[derive(Debug, Clone, Copy, PartialEq, Eq)]
+pub enum WrongRetired {
+    /// Level 2 is retired too, as a number next to 1.
+    LevelTwo,
+    /// Level 3 is retired too, as the other level with RC2 and RC4.
+    LevelThree,
+    /// The level's low byte alone is looked at.
+    LevelCut,
+    /// The level is looked at only where EB is set.
+    EbAsked,
+    /// The level is looked at only in a section with a SecurityHeader.
+    HeaderAsked,
+    /// SHA-1 is retired too.
+    Sha1,
+    /// MD5 is not retired.
+    Md5Left,
+    /// The hash's low 16 bits alone are looked at.
+    HashCut,
+    /// The hash is looked at without a signature.
+    Unsigned,
+    /// The level alone is looked at.
+    HashIgnored,
+    /// Level and hash are both to be retired.
+    BothAsked,
+}
+
+impl WrongRetired {
+    /// All of them.
+    pub const ALL: [Self; 11] = [
+        Self::LevelTwo,
+        Self::LevelThree,
+        Self::LevelCut,
+        Self::EbAsked,
+        Self::HeaderAsked,
+        Self::Sha1,
+        Self::Md5Left,
+        Self::HashCut,
+        Self::Unsigned,
+        Self::HashIgnored,
+        Self::BothAsked,
+    ];
+
+    fn is_retired(self, summary: &Summary<'_>) -> bool {
+        let (level, hash) = (summary.properties.privacy, summary.properties.hash);
+        let signed = summary.security.is_some_and(|security| security.signature_size != 0);
+        let by_level = privacy_is_retired(level);
+        let by_hash = signed && hash_is_retired(hash);
+        match self {
+            Self::LevelTwo => by_level || by_hash || level == 2,
+            Self::LevelThree => by_level || by_hash || level == 3,
+            Self::LevelCut => privacy_is_retired(level & 0xFF) || by_hash,
+            Self::EbAsked => by_level && is_encrypted(summary) || by_hash,
+            Self::HeaderAsked => by_level && summary.security.is_some() || by_hash,
+            Self::Sha1 => by_level || by_hash || signed && hash == 0x8004,
+            Self::Md5Left => by_level || by_hash && hash != 0x8003,
+            Self::HashCut => by_level || signed && hash_is_retired(hash & 0xFFFF),
+            Self::Unsigned => by_level || hash_is_retired(hash),
+            Self::HashIgnored => by_level,
+            Self::BothAsked => by_level && by_hash,
+        }
+    }
+}
+
+/// Reads with a wrong verdict on what is retired.
+pub fn read_retired(wrong: WrongRetired, input: &[u8], security_first: bool) -> Result<Section<'_>, Refusal> {
+    let mut section = crate::read(input, security_first)?;
+    section.summary.retired = wrong.is_retired(&section.summary);
+    Ok(section)
+}
+
+/// Writes no section that is retired, where "the section writer still writes them".
+pub fn write_retired(values: &SectionValues<'_>, out: &mut [u8]) -> Result<usize, Refusal> {
+    let signed = values.security_first && !values.signature.is_empty();
+    if privacy_is_retired(values.privacy_level) || signed && hash_is_retired(values.hash_algorithm) {
+        return Err(Refusal::at_start(number::RETIRED));
+    }
+    crate::write_section(values, out)
+}
+
+/// EB, where there is a SecurityHeader.
+fn is_encrypted(summary: &Summary<'_>) -> bool {
+    summary.security.is_some_and(|security| security.flags.body_encrypted())
+}
+
+/// Steps of a request other than C-21's, by their test 29 or by its place.
+#[derive(Debug, Clone, Copy, PartialEq, Eq)]
+pub enum WrongStep {
+    /// 29 is left out, as before C-21.
+    LeftOut,
+    /// Privacy 2 is refused too.
+    PrivacyTwo,
+    /// Privacy alone is looked at.
+    HashIgnored,
+    /// SHA-1 is refused too.
+    Sha1,
+    /// The hash's low 16 bits alone are looked at.
+    HashCut,
+    /// The hash is looked at without signature bytes.
+    Unsigned,
+    /// An absent hash is refused with 29 rather than 24.
+    HashAbsent,
+    /// 29 comes beside 21, before 22, 23 and 24.
+    BesidePrivacy,
+    /// 29 comes behind 27, when the signature is cut.
+    BehindCut,
+}
+
+impl WrongStep {
+    /// All of them.
+    pub const ALL: [Self; 9] = [
+        Self::LeftOut,
+        Self::PrivacyTwo,
+        Self::HashIgnored,
+        Self::Sha1,
+        Self::HashCut,
+        Self::Unsigned,
+        Self::HashAbsent,
+        Self::BesidePrivacy,
+        Self::BehindCut,
+    ];
+
+    fn order(self) -> [RequestStep; SENDING.len()] {
+        let place = |name| SENDING.iter().position(|step| step.name == name).expect("a step's name");
+        let (mut order, at) = (SENDING, place("29"));
+        let test = &mut order[at].test;
+        match self {
+            Self::LeftOut => *test = |_| false,
+            Self::PrivacyTwo => *test = |f| f.is_retired() || f.properties.privacy_level == 2,
+            Self::HashIgnored => *test = |f| privacy_is_retired(f.properties.privacy_level),
+            Self::Sha1 => {
+                *test = |f| f.is_retired() || f.is_signed() && f.properties.hash_algorithm == 0x8004;
+            }
+            Self::HashCut => {
+                *test = |f| {
+                    let hash = f.properties.hash_algorithm & 0xFFFF;
+                    f.is_retired() || f.is_signed() && hash_is_retired(hash)
+                };
+            }
+            Self::Unsigned => {
+                *test = |f| f.is_retired() || hash_is_retired(f.properties.hash_algorithm);
+            }
+            Self::HashAbsent => order[place("24")].answer = number::RETIRED,
+            Self::BesidePrivacy => order[place("22")..=at].rotate_right(1),
+            Self::BehindCut => order[at..=place("27")].rotate_left(1),
+        }
+        order
+    }
+}
+
+/// Defaults by wrong steps.
+pub fn defaulted_retired<'a>(
+    wrong: WrongStep,
+    request: &Request<'a>,
+) -> Result<request::Properties<'a>, Refusal> {
+    request::defaulted_by(&wrong.order(), request, ENDLESS)
+}
+
+/// Sends by wrong steps.
+pub fn send_retired(wrong: WrongStep, request: &Request<'_>, out: &mut [u8]) -> Result<usize, Refusal> {
+    request::send_by(&wrong.order(), request, out)
 }
 
 /// Copies the X bits of the properties Flags too, which are private.

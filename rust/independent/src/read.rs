@@ -1,7 +1,9 @@
 //! Reading a section by the steps S1 to S11 and P1 to P7.
 
 use crate::bytes::{u16_at, u32_at};
-use crate::lists::{encryption_is_allowed, hash_is_listed, privacy_is_listed};
+use crate::lists::{
+    encryption_is_allowed, hash_is_listed, hash_is_retired, privacy_is_listed, privacy_is_retired,
+};
 use crate::section::{Parts, Properties, Section, Security, SecurityFlags, Summary};
 use crate::section::{PROPERTIES_FIXED, SECURITY_FIXED};
 use crate::steps::{Headers, PropertiesHeader, SectionStep, SecurityHeader, ENDLESS, READING};
@@ -89,6 +91,7 @@ fn section<'a>(input: &'a [u8], headers: &Headers<'a>) -> Section<'a> {
             properties,
             authentication_fails: authentication_fails(&security, &properties),
             decryption_fails: decryption_fails(&security, &properties),
+            retired: retired(&security, &properties),
             parts,
             length: headers.properties.length() as usize,
         },
@@ -137,11 +140,20 @@ fn properties_of<'a>(fixed: &[u8; PROPERTIES_FIXED]) -> Properties<'a> {
 }
 
 fn authentication_fails(security: &Option<Security>, properties: &Properties) -> bool {
-    let signed = security.as_ref().is_some_and(|security| security.signature_size != 0);
-    !privacy_is_listed(properties.privacy) || signed && !hash_is_listed(properties.hash)
+    !privacy_is_listed(properties.privacy) || is_signed(security) && !hash_is_listed(properties.hash)
 }
 
 fn decryption_fails(security: &Option<Security>, properties: &Properties) -> bool {
     let encrypted = security.as_ref().is_some_and(|security| security.flags.body_encrypted());
     encrypted && !encryption_is_allowed(properties.privacy, properties.encryption)
+}
+
+/// C-21: "PrivacyLevel is 1, or a signature is present with hash 0x8001, 0x8002 or 0x8003".
+fn retired(security: &Option<Security>, properties: &Properties) -> bool {
+    privacy_is_retired(properties.privacy) || is_signed(security) && hash_is_retired(properties.hash)
+}
+
+/// "A signature is present."
+fn is_signed(security: &Option<Security>) -> bool {
+    security.as_ref().is_some_and(|security| security.signature_size != 0)
 }

@@ -63,6 +63,8 @@ pub mod number {
     pub const SPLIT: u32 = 27;
     /// Key, signature or certificate above 65,535 bytes.
     pub const PART_SIZE: u32 = 28;
+    /// A request's privacy, or the hash of its signature, is retired.
+    pub const RETIRED: u32 = 29;
     /// The queue type is above 8.
     pub const QUEUE_TYPE: u32 = 30;
     /// The queue type does not go with suffix and flags.

@@ -1,7 +1,7 @@
 //! Send requests: absent values filled in, the steps 1 to 6, and the section that is written.
 
 use crate::bytes::put_units;
-use crate::lists::class_is_listed;
+use crate::lists::{class_is_listed, hash_is_retired, privacy_is_retired};
 use crate::order::{first_failure, Judged, Step};
 use crate::section::{SecurityFlags, LABEL_MOST, LIMIT};
 use crate::steps::{identity_is_right, Headers, PropertiesHeader, SecurityHeader, ENDLESS, LABEL_BYTES_MOST};
@@ -195,8 +195,8 @@ const fn step(name: &'static str, number: u32, fails: fn(&FilledIn<'_, '_>) -> b
     Step { name, answer: number, test: fails }
 }
 
-/// Steps 1 to 6.
-pub(crate) const SENDING: [RequestStep; 13] = [
+/// Steps 1 to 6; 29, of C-21, "right after 24".
+pub(crate) const SENDING: [RequestStep; 14] = [
     step("20", number::RANGE, |f| f.is_out_of_range()),
     step("10", number::CLASS, |f| !u16::try_from(f.properties.class).is_ok_and(class_is_listed)),
     step("21", number::PRIVACY, |f| f.properties.privacy_level > 2),
@@ -205,6 +205,7 @@ pub(crate) const SENDING: [RequestStep; 13] = [
         f.request.privacy_level.is_some() && f.request.encryption_algorithm.is_none()
     }),
     step("24", number::HASH_ABSENT, |f| f.is_signed() && f.request.hash_algorithm.is_none()),
+    step("29", number::RETIRED, |f| f.is_retired()),
     step("25", number::REQUEST_IDENTITY, |f| !f.identity_fits()),
     step("26", number::REQUEST_PROVIDER, |f| f.is_signed() && !f.provider_fits()),
     step("27", number::SPLIT, |f| !f.split_fits),
@@ -217,7 +218,7 @@ pub(crate) const SENDING: [RequestStep; 13] = [
 /// A request as its steps look at it: every absent value filled in, the title and the signature cut.
 pub(crate) struct FilledIn<'r, 'a> {
     request: &'r Request<'a>,
-    properties: Properties<'a>,
+    pub(crate) properties: Properties<'a>,
     /// Whether step 5 could cut the signature; where not, it is as it was given.
     split_fits: bool,
     /// The headers of the section that would be written.
@@ -243,7 +244,7 @@ impl<'r, 'a> FilledIn<'r, 'a> {
     }
 
     /// "Signature bytes given."
-    fn is_signed(&self) -> bool {
+    pub(crate) fn is_signed(&self) -> bool {
         !self.request.signature.is_empty()
     }
 
@@ -255,6 +256,12 @@ impl<'r, 'a> FilledIn<'r, 'a> {
             || properties.delivery > 1
             || properties.acknowledge > 15
             || properties.auditing > 3
+    }
+
+    /// 29: "retired privacy, then retired hash where the request is signed".
+    pub(crate) fn is_retired(&self) -> bool {
+        privacy_is_retired(self.properties.privacy_level)
+            || self.is_signed() && hash_is_retired(self.properties.hash_algorithm)
     }
 
     /// 25.

@@ -154,6 +154,8 @@ pub struct Summary<'a> {
     pub authentication_fails: bool,
     /// The verdict on privacy level and encryption algorithm.
     pub decryption_fails: bool,
+    /// Whether privacy level or hash algorithm is one that is no longer sent.
+    pub retired: bool,
     /// Start and length of each part.
     pub parts: Parts,
     /// The section's length in bytes, the padding at its end included.

@@ -1,4 +1,4 @@
-//! The paper's examples 1 to 11, the listing's and C-14's, with content that passes S10, S11 and P7.
+//! The paper's examples 1 to 11, the listing's, C-14's and C-21's, with content that passes S10, S11 and P7.
 
 use independent::queue::{read_image, write_image};
 use independent::request::{defaulted, send, Request};
@@ -325,5 +325,51 @@ fn level_and_algorithm() {
     for (level, algorithm, with_eb) in [(5, 0x6801, true), (5, 0x6610, false), (0, 0x6801, true)] {
         assert_eq!(fails(0x00A0, level, algorithm), with_eb, "level {level} with {algorithm:#06x}");
         assert!(!fails(0x0080, level, algorithm), "EB is clear");
+    }
+}
+
+/// A section with this level and hash behind `head`: read, and written again as it was.
+fn is_retired(head: &[u8], level: u32, hash: u32) -> bool {
+    let mut header = properties(0, 0, 0, 0, 0);
+    header[40..44].copy_from_slice(&level.to_le_bytes());
+    header[44..48].copy_from_slice(&hash.to_le_bytes());
+    let bytes = [head, &header].concat();
+    let section = read(&bytes, !head.is_empty()).unwrap();
+    let mut again = vec![0; bytes.len()];
+    assert_eq!(write_section(&SectionValues::of(&section, &bytes), &mut again), Ok(bytes.len()));
+    assert_eq!(again, bytes);
+    section.summary.retired
+}
+
+#[test]
+fn retired_level() {
+    let keys = [0x0080, 0x00A0].map(|flags| [security(flags, [0, 4, 0], 0, 0), b"akey".to_vec()].concat());
+    for head in [&b""[..], &keys[0], &keys[1]] {
+        for (level, retired) in [(0, false), (1, true), (2, false), (3, false), (5, false), (0x101, false)] {
+            assert_eq!(is_retired(head, level, 0x8004), retired, "level {level}");
+        }
+        assert!(!is_retired(head, 0, 0x8001), "there is no signature");
+    }
+}
+
+#[test]
+fn retired_hash() {
+    for (flags, length) in [(0x00C0, 1), (0x00E0, 4), (0x00C0, 256)] {
+        let parts = vec![7; 4_usize.max(length)];
+        let mut head = [security(flags, [0, 0, length as u16], 0, 0), parts].concat();
+        head[16 + length..].fill(0);
+        for (hash, retired) in [
+            (0x8000, false),
+            (0x8001, true),
+            (0x8002, true),
+            (0x8003, true),
+            (0x8004, false),
+            (0x800C, false),
+            (0x18001, false),
+            (0x80018001, false),
+        ] {
+            assert_eq!(is_retired(&head, 0, hash), retired, "hash {hash:#x}");
+            assert!(is_retired(&head, 1, hash), "level 1");
+        }
     }
 }

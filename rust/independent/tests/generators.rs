@@ -1,7 +1,8 @@
-//! How often each refusal comes up in the generated cases, and each level beside each algorithm.
+//! How often each refusal comes up in the generated cases, each level beside each algorithm, and what
+//! is retired.
 //! `--nocapture` prints the tables.
 
-use std::collections::BTreeMap;
+use std::collections::{BTreeMap, BTreeSet};
 
 use independent::generate::{case, day, image, image_values, request, section_values, Random};
 use independent::listing::{ended_by, next_record, Next};
@@ -74,6 +75,57 @@ fn levels_and_algorithms() {
     assert!(counts.values().all(|&sections| sections >= 40), "{counts:?}");
 }
 
+/// Level 1 and each retired hash come beside others, signed, unsigned and without a SecurityHeader, in
+/// sections that are accepted: those to be read, and those to be written.
+#[test]
+fn retired_levels_and_hashes() {
+    let (mut r, mut counts) = (Random::new(9), [BTreeMap::new(), BTreeMap::new()]);
+    let mut count = |which: usize, signature: Option<usize>, level: u32, hash: u32| {
+        let hash = (0x8001..=0x8003).contains(&hash).then_some(hash);
+        let signed = signature.map(|bytes| bytes != 0);
+        *counts[which].entry((signed, level == 1, hash)).or_insert(0) += 1;
+    };
+    for _ in 0..50_000 {
+        let case = case(&mut r);
+        if let Ok(section) = read(&case.bytes, case.security_first) {
+            let Summary { security, properties, .. } = section.summary;
+            count(0, security.map(|_| section.signature.len()), properties.privacy, properties.hash);
+        }
+        let owned = section_values(&mut r);
+        if write_section(&owned.as_values(), &mut vec![0; owned.room]).is_ok() {
+            let signature = owned.security_first.then_some(owned.signature.len());
+            count(1, signature, owned.privacy_level, owned.hash_algorithm);
+        }
+    }
+    for counts in counts {
+        println!("retired levels and hashes: {counts:?}");
+        assert_eq!(counts.len(), 3 * 2 * 4);
+        assert!(counts.values().all(|&sections| sections >= 40), "{counts:?}");
+    }
+}
+
+/// What a request's 29 looks at, next to it too, comes up where no step before it fails.
+#[test]
+fn retired_requests() {
+    let (mut r, mut met) = (Random::new(10), BTreeSet::new());
+    for _ in 0..50_000 {
+        let owned = request(&mut r);
+        let answer = send(&owned.as_request(), &mut vec![0; owned.room]).err().map(|refusal| refusal.number);
+        let signature = owned.signature.len().min(2);
+        let split = signature != 0 && owned.split_number.is_some();
+        met.insert((owned.privacy_level == Some(1), owned.hash_algorithm, signature, split, answer));
+    }
+    for (signature, split) in [(0, false), (1, false), (1, true), (2, false), (2, true)] {
+        for hash in [0x8000, 0x8001, 0x8002, 0x8003, 0x8004, 0x800C, 0x18001] {
+            let retired = signature != 0 && (0x8001..=0x8003).contains(&hash);
+            for (private, retired) in [(false, retired), (true, true)] {
+                let case = (private, Some(hash), signature, split, retired.then_some(number::RETIRED));
+                assert!(met.contains(&case), "{case:x?}");
+            }
+        }
+    }
+}
+
 #[test]
 fn values_to_be_written() {
     let counts = counts("section values", 50_000, 2, |r| {
@@ -109,7 +161,7 @@ fn send_requests() {
         send(&owned.as_request(), &mut vec![0; owned.room])
     });
     assert!(counts[&0] > 10_000);
-    each_at_least(&counts, [10, 11, 13].into_iter().chain(20..=28), 100, &[number::LIMIT]);
+    each_at_least(&counts, [10, 11, 13].into_iter().chain(20..=29), 100, &[number::LIMIT]);
 }
 
 #[test]

@@ -21,7 +21,7 @@ fn the_lists_are_the_papers() {
         ),
         (List::ImageRead, "30+31 31+32 32+33"),
         (List::ImageWritten, "30+31 31+32 32+33 33+13"),
-        (List::Sending, "20+10 10+21 21+22 22+23 23+24 24+25 25+26 26+27 27+28 28+11 11+8 8+13"),
+        (List::Sending, "20+10 10+21 21+22 22+23 23+24 24+29 29+25 25+26 26+27 27+28 28+11 11+8 8+13"),
     ];
     for (list, expected) in lists {
         assert_eq!(names(list.neighbours()), expected);

@@ -41,6 +41,37 @@ fn verdicts_on_decryption() {
 }
 
 #[test]
+fn verdicts_on_what_is_retired() {
+    for wrong in planted::WrongRetired::ALL {
+        let found = differences(10, |r| {
+            let case = case(r);
+            let (input, first) = (&case.bytes[..], case.security_first);
+            read(input, first) != planted::read_retired(wrong, input, first)
+        });
+        assert!(found > 0, "{wrong:?}");
+    }
+}
+
+#[test]
+fn steps_on_what_is_retired() {
+    for wrong in planted::WrongStep::ALL {
+        let found = differences(11, |r| {
+            let owned = request(r);
+            let request = owned.as_request();
+            let values = requests::defaulted(&request) != planted::defaulted_retired(wrong, &request);
+            let sent = writers_differ(
+                owned.room,
+                |out| requests::send(&request, out),
+                |out| planted::send_retired(wrong, &request, out),
+            );
+            assert!(sent || !values, "where the values differ, so does what is sent");
+            values
+        });
+        assert!(found > 0, "{wrong:?}");
+    }
+}
+
+#[test]
 fn support_copies() {
     let found = differences(2, |r| {
         let case = case(r);
@@ -63,6 +94,16 @@ fn section_writers() {
             owned.room,
             |out| write_section(&values, out),
             |out| planted::write_section(&values, out),
+        )
+    });
+    assert!(found > 100, "{found}");
+    let found = differences(12, |r| {
+        let owned = section_values(r);
+        let values = owned.as_values();
+        writers_differ(
+            owned.room,
+            |out| write_section(&values, out),
+            |out| planted::write_retired(&values, out),
         )
     });
     assert!(found > 100, "{found}");

@@ -87,7 +87,7 @@ fn step_2() {
     let known = |level| Request { encryption_algorithm: Some(0x6801), ..private(level) };
     for level in 0..3 {
         assert_eq!(answer(&private(level)), number::ALGORITHM_ABSENT);
-        assert_eq!(answer(&known(level)), 0);
+        assert_eq!(answer(&known(level)), if level == 1 { number::RETIRED } else { 0 });
         let direct = Request { direct_queue: true, ..known(level) };
         assert_eq!(answer(&direct), if level == 0 { 0 } else { number::DIRECT_PRIVACY });
     }
@@ -98,6 +98,48 @@ fn step_2() {
     assert_eq!(answer(&Request { signature: b"s", ..private(1) }), number::ALGORITHM_ABSENT);
     assert_eq!(answer(&Request { signature: b"s", sender_kind: Some(3), ..none }), number::HASH_ABSENT);
     assert_eq!(answer(&Request { direct_queue: true, encryption: true, encryption_key: b"k", ..none }), 0);
+}
+
+/// C-21's 29: of privacy 1 alone, and of MD2, MD4 and MD5 with signature bytes alone.
+#[test]
+fn retired_requests() {
+    let known =
+        |level| Request { privacy_level: Some(level), encryption_algorithm: Some(0x6801), ..signed() };
+    let hashed = |hash| Request { hash_algorithm: Some(hash), ..signed() };
+    assert_eq!([0, 1, 2].map(|level| answer(&known(level))), [0, number::RETIRED, 0]);
+    for hash in [0x8001, 0x8002, 0x8003] {
+        for signature in [&b"s"[..], b"si"] {
+            let cut = Request { signature, split_number: Some(1), ..hashed(hash) };
+            assert_eq!(answer(&cut), number::RETIRED);
+            assert_eq!(answer(&Request { split_number: None, ..cut }), number::RETIRED);
+        }
+        assert_eq!(answer(&Request { signature: b"", ..hashed(hash) }), 0, "without signature bytes");
+    }
+    for hash in [0, 1, 0x8000, 0x8004, 0x8005, 0x800C, 0x800E, 0x18001, 0x80008003] {
+        assert_eq!(answer(&hashed(hash)), 0, "{hash:#x}");
+    }
+}
+
+/// 29 comes "right after 24", and before step 3.
+#[test]
+fn retired_requests_after_24_and_before_25() {
+    let privacy = Request { privacy_level: Some(1), encryption_algorithm: Some(0x6801), ..signed() };
+    let hash = Request { hash_algorithm: Some(0x8003), ..signed() };
+    assert_eq!(answer(&Request { direct_queue: true, ..privacy }), number::DIRECT_PRIVACY);
+    assert_eq!(answer(&Request { encryption_algorithm: None, ..privacy }), number::ALGORITHM_ABSENT);
+    assert_eq!(answer(&Request { privacy_level: Some(0), ..hash }), number::ALGORITHM_ABSENT);
+    assert_eq!(answer(&Request { hash_algorithm: None, ..privacy }), number::HASH_ABSENT);
+    let long = vec![1; 65_536];
+    for retired in [privacy, hash] {
+        let kind = Request { sender_kind: Some(3), ..retired };
+        let name = Request { provider_name: &[], ..retired };
+        let split = Request { split_number: Some(0), ..retired };
+        let part = Request { sender_cert: &long, ..retired };
+        let allocation = Request { body: Some((b"body", 3)), ..retired };
+        for request in [kind, name, split, part, allocation] {
+            assert_eq!(answer(&request), number::RETIRED);
+        }
+    }
 }
 
 #[test]
@@ -225,7 +267,7 @@ fn titles_are_cut_at_the_first_zero_then_at_249() {
 
 #[test]
 fn privacy_2_is_3_in_the_packet() {
-    for (privacy, packet) in [(0, 0), (1, 1), (2, 3)] {
+    for (privacy, packet) in [(0, 0), (2, 3)] {
         let request = Request {
             privacy_level: Some(privacy),
             encryption_algorithm: Some(0x6610),
@@ -298,7 +340,9 @@ fn what_is_sent_reads_back_as_the_defaulted_values() {
             Ok(length) => {
                 let properties = defaulted(&owned.as_request()).unwrap();
                 assert_eq!(length, properties.section_length());
-                carries(&read(&out[..length], properties.security_first()).unwrap(), &properties);
+                let section = read(&out[..length], properties.security_first()).unwrap();
+                carries(&section, &properties);
+                assert!(!section.summary.retired);
                 assert!(out[length..].iter().all(|&byte| byte == 0x55));
                 sent += 1;
             }

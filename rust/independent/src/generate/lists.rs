@@ -17,7 +17,7 @@ pub(super) const NO_CLASSES: [u16; 16] = [
 pub(super) const PRIVACY: [u32; 15] =
     [0, 1, 3, 5, 2, 4, 6, 7, 0x100, 0x01000000, 0xFFFFFFFF, 0x00010001, 0x23, 0x105, 0x80000005];
 
-/// Hash algorithms: six listed ones, then others.
+/// Hash algorithms: three listed ones that are retired, three more listed ones, then others.
 pub(super) const HASHES: [u32; 18] = [
     0x8001, 0x8002, 0x8003, 0x8004, 0x800C, 0x800E, 0, 0x8000, 0x8005, 0x800B, 0x800D, 0x800F, 0x18001,
     0x0001, 0x80008003, 0x8008, 0x801C, 0x800C0000,

@@ -113,8 +113,15 @@ impl Random {
     }
     /// A hash algorithm, listed or not.
     pub(super) fn hash(&mut self) -> u32 {
-        let count = self.pick(&[6, HASHES.len()]);
-        self.pick(&HASHES[..count])
+        self.hash_from(0)
+    }
+    /// A hash algorithm, listed or not, that a signed request may have.
+    pub(super) fn hash_to_sign(&mut self) -> u32 {
+        self.hash_from(3)
+    }
+    fn hash_from(&mut self, first: usize) -> u32 {
+        let end = self.pick(&[6, HASHES.len()]);
+        self.pick(&HASHES[first..end])
     }
     /// An encryption algorithm, listed or not.
     pub(super) fn cipher(&mut self) -> u32 {

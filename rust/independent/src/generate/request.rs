@@ -73,7 +73,7 @@ pub struct OwnedRequest {
 }
 
 /// A request's steps.
-const STEPS: [&str; 13] = names(&SENDING);
+const STEPS: [&str; 14] = names(&SENDING);
 
 /// A send request: legal, or with one to three steps or two neighbouring ones broken or at their
 /// boundary; a title that is cut now and then.
@@ -164,7 +164,7 @@ impl OwnedRequest {
         self.privacy_level = match (r.once_in(3), self.direct_queue) {
             (true, _) => None,
             (_, true) => Some(0),
-            (_, false) => Some(r.below(3) as u32),
+            (_, false) => Some(r.pick(&[0, 2])),
         };
         let algorithm = r.cipher();
         self.encryption_algorithm = (self.privacy_level.is_some() || r.once_in(2)).then_some(algorithm);
@@ -186,13 +186,19 @@ impl OwnedRequest {
     fn draw_signature(&mut self, r: &mut Random) {
         self.signature = small_part(r);
         let signed = !self.signature.is_empty();
-        let hash = r.hash();
+        let hash = if signed { r.hash_to_sign() } else { r.hash() };
         self.hash_algorithm = (signed || r.once_in(2)).then_some(hash);
         self.draw_provider(r);
-        if r.once_in(2) {
-            let count = if signed { 1 + r.below(self.signature.len()) } else { r.below(9) };
-            self.split_number = Some(self.provider_name_length + count as u32);
-        }
+        self.draw_split(r);
+    }
+
+    /// A split number that step 5 passes, or none.
+    fn draw_split(&mut self, r: &mut Random) {
+        self.split_number = r.once_in(2).then(|| {
+            let count =
+                if self.signature.is_empty() { r.below(9) } else { 1 + r.below(self.signature.len()) };
+            self.provider_name_length.saturating_add(count as u32)
+        });
     }
 
     /// A provider that step 4 passes.
@@ -246,6 +252,7 @@ impl OwnedRequest {
                 let length = r.below(3);
                 self.signature = r.bytes(length);
             }
+            "29" => self.break_retired(r),
             "25" => self.break_identity(r),
             "26" => self.break_provider(r),
             "27" => self.break_split(r),
@@ -272,6 +279,27 @@ impl OwnedRequest {
             if i == which {
                 *field = Some(most[i] + over);
             }
+        }
+    }
+
+    /// 29 and next to it, by the hash of a signature, which may be empty or cut, by privacy, or by
+    /// both.
+    fn break_retired(&mut self, r: &mut Random) {
+        let by = r.below(4);
+        if by < 2 {
+            let length = r.pick(&[0, 1, 2, 9]);
+            self.signature = r.bytes(length);
+            self.hash_algorithm =
+                Some(r.pick(&[
+                    0x8000, 0x8001, 0x8001, 0x8002, 0x8002, 0x8003, 0x8003, 0x8004, 0x800C, 0x18001,
+                ]));
+            self.draw_provider(r);
+            self.draw_split(r);
+        }
+        if by > 0 {
+            self.direct_queue = false;
+            self.privacy_level = Some(r.pick(&[0, 1, 1, 1, 2]));
+            self.encryption_algorithm = Some(r.cipher());
         }
     }
 
@@ -352,7 +380,7 @@ impl OwnedRequest {
         if self.signature.is_empty() {
             let length = 1 + r.below(12);
             self.signature = r.bytes(length);
-            self.hash_algorithm = Some(r.hash());
+            self.hash_algorithm = Some(r.hash_to_sign());
             self.draw_provider(r);
             self.split_number = None;
         }

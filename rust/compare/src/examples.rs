@@ -1,4 +1,4 @@
-//! 01's examples and C-14's, held against each side. Their parts have content that passes S10, S11 and P7.
+//! 01's examples, C-14's and C-21's, held against each side. Their parts have content that passes S10, S11 and P7.
 
 use crate::lend::lend;
 use crate::report::{agree, Check, Tally};
@@ -8,7 +8,7 @@ use crate::side::{Answer, Part, Refusal, Request, SectionValues, Side, Sides, So
 type Example = (&'static str, fn(&dyn Side) -> Check);
 
 /// The examples, by their numbers.
-const EXAMPLES: [Example; 13] = [
+const EXAMPLES: [Example; 14] = [
     ("example 1", zero_bytes),
     ("example 2", parts_in_a_row),
     ("example 3", longest_label),
@@ -22,6 +22,7 @@ const EXAMPLES: [Example; 13] = [
     ("example 11", titles),
     ("the listing's example", listing),
     ("C-14's example", level_and_algorithm),
+    ("C-21's example", retired),
 ];
 
 /// Holds every example against both sides.
@@ -265,6 +266,37 @@ fn level_and_algorithm(side: &dyn Side) -> Check {
             let found = side.summarize(&bytes, true).map(|summary| summary.decryption_fails);
             agree("decryption fails", &found, &Ok(wanted))?;
         }
+    }
+    Ok(())
+}
+
+/// Privacy 1, and MD5 beside a signature: written and read, but not sent. Privacy 2, SHA-1, and MD5 without a signature
+/// are sent as they are written.
+fn retired(side: &dyn Side) -> Check {
+    for (privacy, privacy_level, hash, signature, retired) in [
+        (1, 1, 0, &b""[..], true),
+        (2, 3, 0, b"", false),
+        (0, 0, 0x8003, b"sign", true),
+        (0, 0, 0x8004, b"sign", false),
+        (0, 0, 0x8003, b"", false),
+    ] {
+        let security_first = !signature.is_empty();
+        let values = SectionValues { security_first, security_flags: 0x00C0, signature, ..plain() };
+        let values = SectionValues { privacy_level, hash_algorithm: hash, ..values };
+        let written = lend(100, |out| side.write_section(&values, out));
+        let found = side.summarize(written.bytes(), security_first).map(|summary| summary.retired);
+        agree("retired", &found, &Ok(retired))?;
+        let request = Request {
+            privacy_level: Some(privacy),
+            encryption_algorithm: Some(0),
+            hash_algorithm: Some(hash),
+            provider_type: Some(1),
+            signature,
+            default_provider: true,
+            ..Request::default()
+        };
+        let sent = lend(100, |out| side.send(&request, out).map(|sent| sent.length));
+        sent.is("the section sent", &if retired { refused(29, 0) } else { Ok(written.bytes()) })?;
     }
     Ok(())
 }

@@ -2,8 +2,8 @@
 //! every input.
 //!
 //! [`side`] puts both behind one interface; [`sections`], [`writing`], [`queues`], [`requests`], [`listing`] and [`copies`] compare
-//! two sides on generated cases, [`classes`], [`pairs`], [`sweeps`] and [`examples`] on fixed ones; [`properties`] says
-//! what has to hold of one side alone. Each takes its sides as arguments, so that a test can put a wrong one there.
+//! two sides on generated cases, [`classes`], [`pairs`], [`mod@retired`], [`sweeps`] and [`examples`] on fixed ones;
+//! [`properties`] says what has to hold of one side alone. Each takes its sides as arguments, so that a test can put a wrong one there.
 
 #![forbid(unsafe_code)]
 #![warn(missing_docs)]
@@ -20,6 +20,7 @@ pub mod properties;
 pub mod queues;
 pub mod report;
 pub mod requests;
+pub mod retired;
 pub mod second;
 pub mod sections;
 pub mod side;

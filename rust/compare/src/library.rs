@@ -209,6 +209,7 @@ fn summary(summary: library::Summary<'_>) -> Summary<'_> {
         extension_size: summary.extension_size as u64,
         authentication_fails: summary.authentication_fails,
         decryption_fails: summary.decryption_fails,
+        retired: summary.retired,
         parts,
         length: summary.section_length,
         label: summary.label.bytes(),

@@ -16,7 +16,8 @@ use compare::report::{Tally, HEADER};
 use compare::second::Independent;
 use compare::side::Sides;
 use compare::{
-    classes, copies, examples, listing, pairs, properties, queues, requests, sections, sweeps, writing,
+    classes, copies, examples, listing, pairs, properties, queues, requests, retired, sections, sweeps,
+    writing,
 };
 use independent::generate::Random;
 
@@ -27,7 +28,7 @@ const SECTION: [u32; 12] = [1, 2, 3, 4, 5, 6, 7, 8, 9, 10, 11, 12];
 /// The refusals of a section that is written.
 const WRITER: [u32; 12] = [2, 3, 4, 6, 7, 8, 9, 10, 11, 12, 13, 28];
 /// The refusals of a request.
-const REQUEST: [u32; 13] = [8, 10, 11, 13, 20, 21, 22, 23, 24, 25, 26, 27, 28];
+const REQUEST: [u32; 14] = [8, 10, 11, 13, 20, 21, 22, 23, 24, 25, 26, 27, 28, 29];
 
 /// What is to be run.
 struct Arguments {
@@ -100,6 +101,9 @@ fn run(arguments: Arguments) -> io::Result<u64> {
     print(other_way, &SECTION);
     print(classes::run(sides, &mut generator()), &[10]);
     print(pairs::run(sides, &mut generator()), &[]);
+    let [retired, not_sent] = retired::run(sides, &mut generator());
+    print(retired, &[]);
+    print(not_sent, &[21, 22, 23, 24, 25, 26, 27, 29]);
     print(sweeps::run(sides, &mut generator()), &[]);
     print(properties::run(&library, 500_000 * factor, &mut generator()), &SECTION);
     print(writing::run(sides, 300_000 * factor, &mut generator()), &WRITER);

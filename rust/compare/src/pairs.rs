@@ -22,7 +22,7 @@ const UNLISTED: u32 = 0x800D;
 
 /// The bytes before the MessagePropertiesHeader, whether EB is set in them, and whether they hold a signature: none; a
 /// SecurityHeader with DP and a key; one with DP, DE and a signature.
-const HEADS: [(&[u8], bool, bool); 5] = [
+pub(crate) const HEADS: [(&[u8], bool, bool); 5] = [
     (b"", false, false),
     (b"\x80\0\0\0\x04\0\0\0\0\0\0\0\0\0\0\0akey", false, false),
     (b"\xA0\0\0\0\x04\0\0\0\0\0\0\0\0\0\0\0akey", true, false),
@@ -59,7 +59,7 @@ pub fn run(sides: Sides<'_>, r: &mut Random) -> Tally {
 }
 
 /// The numbers and 0, those one bit and one away from them, and the same in the high half.
-fn near(numbers: &[u32]) -> BTreeSet<u32> {
+pub(crate) fn near(numbers: &[u32]) -> BTreeSet<u32> {
     let neighbours = |&n: &u32| {
         let one_bit = (0..32).map(move |bit| n ^ 1 << bit);
         one_bit.chain([n, 0, n.wrapping_add(1), n.wrapping_sub(1), n << 16])
@@ -68,7 +68,7 @@ fn near(numbers: &[u32]) -> BTreeSet<u32> {
 }
 
 /// A section without parts behind `head`. The X bit in its Flags stands where a SecurityHeader would have EB.
-fn section(head: &[u8], (level, algorithm): (u32, u32), hash: u32) -> Vec<u8> {
+pub(crate) fn section(head: &[u8], (level, algorithm): (u32, u32), hash: u32) -> Vec<u8> {
     let numbers = [level, hash, algorithm].map(u32::to_le_bytes);
     [head, &[0x20], &[0; 39], numbers.as_flattened(), &[0; 4]].concat()
 }

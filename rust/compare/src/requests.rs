@@ -1,6 +1,6 @@
 //! Send requests defaulted and written by both sides.
 
-use independent::generate::{request, OwnedRequest, Random};
+use independent::generate::{request, Random};
 use independent::neighbours::{self, List};
 
 use crate::lend::{lend, Written};
@@ -14,10 +14,11 @@ pub fn run(sides: Sides<'_>, cases: u64, r: &mut Random) -> Tally {
     let mut tally = Tally::with_neighbours("requests", List::Sending);
     for _ in 0..cases {
         let owned = request(r);
-        let check = compare(sides, &owned);
-        let (sent, _) = send(sides.one, &owned.as_request(), owned.room);
+        let (request, room) = (owned.as_request(), owned.room);
+        let check = compare(sides, &request, room);
+        let (sent, _) = send(sides.one, &request, room);
         tally.add(&sent.answer, check, || values_in_hex(&owned));
-        tally.meet_neighbours(neighbours::sending(&owned.as_request(), owned.room));
+        tally.meet_neighbours(neighbours::sending(&request, room));
     }
     tally
 }
@@ -33,29 +34,30 @@ fn send(side: &dyn Side, request: &Request<'_>, room: usize) -> (Written, bool) 
     (written, security_first)
 }
 
-/// Defaults and sends the request with both sides; what the one sent has to read back as the defaulted values.
-fn compare(sides: Sides<'_>, owned: &OwnedRequest) -> Check {
-    let request = owned.as_request();
-    let defaulted = sides.both("the defaulted values", |side| side.defaulted(&request))?;
-    let (sent, _) = sides.both("the section sent", |side| send(side, &request, owned.room))?;
+/// Defaults and sends the request with both sides; what the one sent has to read back as the defaulted values, and not
+/// as retired (C-21).
+pub fn compare(sides: Sides<'_>, request: &Request<'_>, room: usize) -> Check {
+    let defaulted = sides.both("the defaulted values", |side| side.defaulted(request))?;
+    let (sent, _) = sides.both("the section sent", |side| send(side, request, room))?;
     sent.rest_stays()?;
     let values = match defaulted {
         Ok(values) => values,
         Err(refusal) => return agree("sending is refused as defaulting is", &sent.answer, &Err(refusal)),
     };
-    let carried = Carried::new(&values, &request);
+    let carried = Carried::new(&values, request);
     let length = carried.length();
-    let wanted = if owned.room < length { Err(SHORT) } else { Ok(length) };
+    let wanted = if room < length { Err(SHORT) } else { Ok(length) };
     agree("the length of the section sent", &sent.answer, &wanted)?;
     let (exact, security_first) =
-        sides.both("the section sent in its own length", |side| send(side, &request, length))?;
+        sides.both("the section sent in its own length", |side| send(side, request, length))?;
     agree("its own length is room enough", &exact.answer, &Ok(length))?;
     agree("whether a SecurityHeader stands first", &security_first, &carried.security_first)?;
-    let (short, _) = sides.both("the section sent a byte short", |side| send(side, &request, length - 1))?;
+    let (short, _) = sides.both("the section sent a byte short", |side| send(side, request, length - 1))?;
     short.is("the section sent a byte short", &Err(SHORT))?;
-    let values = carried.values(&values, &request);
-    let reading = sides.one.read(&exact.out, security_first);
-    agree("what is sent reads back", &reading.map(|reading| read_values(&reading)), &Ok(values))
+    let values = carried.values(&values, request);
+    let reading = sides.both("what is sent", |side| side.read(&exact.out, security_first))?;
+    agree("what is sent reads back", &reading.map(|reading| read_values(&reading)), &Ok(values))?;
+    agree("what is sent is retired", &reading.map(|reading| reading.summary.retired), &Ok(false))
 }
 
 /// The texts of the section that a request is written as, and whether a SecurityHeader stands first in it.

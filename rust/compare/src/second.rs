@@ -98,6 +98,7 @@ pub fn summary<'a>(section: &Section<'a>) -> Summary<'a> {
         extension_size: properties.extension_size.into(),
         authentication_fails: section.summary.authentication_fails,
         decryption_fails: section.summary.decryption_fails,
+        retired: section.summary.retired,
         parts,
         length,
         label: properties.label,

@@ -59,6 +59,8 @@ pub struct Summary<'a> {
     pub authentication_fails: bool,
     /// The verdict "decryption fails".
     pub decryption_fails: bool,
+    /// The verdict "retired".
+    pub retired: bool,
     /// Start and length of each part.
     pub parts: Parts,
     /// The section's length.

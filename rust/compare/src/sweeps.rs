@@ -73,7 +73,8 @@ fn whole_section() -> Vec<u8> {
         body_type: 8,
         application_tag: 0x1234_5678,
         allocation_body_size: 7,
-        privacy_level: 1,
+        // retired by its hash alone
+        privacy_level: 3,
         hash_algorithm: 0x8003,
         encryption_algorithm: 0x6801,
         label: LABEL,

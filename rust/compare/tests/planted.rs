@@ -7,10 +7,12 @@ use compare::report::Tally;
 use compare::second::{defaulted, reading, sent, summary, Independent};
 use compare::side::{Answer, Defaulted, Image, Line, Next, Reading, Record, Records, Request};
 use compare::side::{SectionValues, Sent, Side, Sides, Source, Summary};
-use compare::{classes, examples, listing, pairs, properties, queues, requests, sections, sweeps, writing};
+use compare::{
+    classes, examples, listing, pairs, properties, queues, requests, retired, sections, sweeps, writing,
+};
 use independent::generate::Random;
 use independent::neighbours::{List, Neighbours};
-use independent::planted::{self, WrongVerdict};
+use independent::planted::{self, WrongRetired, WrongStep, WrongVerdict};
 
 /// The generated cases of a kind.
 const CASES: u64 = 8_000;
@@ -26,6 +28,12 @@ enum Fault {
     ClassSent(u16),
     /// The verdict on decryption is another.
     Verdict(WrongVerdict),
+    /// The verdict on what is retired is another.
+    Retired(WrongRetired),
+    /// What is retired is not written.
+    RetiredWritten,
+    /// A request's 29 is another.
+    RetiredSent(WrongStep),
     /// Private bits count.
     SameSummary,
     /// A label of one unit is taken for none.
@@ -93,6 +101,9 @@ impl Side for Planted {
             Fault::Verdict(wrong) => {
                 planted::read_verdict(wrong, input, security_first).map(|section| reading(&section, input))
             }
+            Fault::Retired(wrong) => {
+                planted::read_retired(wrong, input, security_first).map(|section| reading(&section, input))
+            }
             Fault::Exchanged(List::Reading, pair) => planted::read_exchanged(pair.at, input, security_first)
                 .map(|section| reading(&section, input)),
             _ => Independent.read(input, security_first),
@@ -101,9 +112,10 @@ impl Side for Planted {
     fn summarize<'a>(&self, input: &'a [u8], security_first: bool) -> Answer<Summary<'a>> {
         match self.0 {
             Fault::Read => planted::read(input, security_first).map(|section| summary(&section)),
-            Fault::Exchanged(List::Reading, _) | Fault::ClassRead(_) | Fault::Verdict(_) => {
-                self.read(input, security_first).map(|reading| reading.summary)
-            }
+            Fault::Exchanged(List::Reading, _)
+            | Fault::ClassRead(_)
+            | Fault::Verdict(_)
+            | Fault::Retired(_) => self.read(input, security_first).map(|reading| reading.summary),
             _ => Independent.summarize(input, security_first),
         }
     }
@@ -130,6 +142,7 @@ impl Side for Planted {
         let answer = match self.0 {
             Fault::WriteSection => planted::write_section(values, out),
             Fault::ClassWritten(extra) => planted::write_class(extra, values, out),
+            Fault::RetiredWritten => planted::write_retired(values, out),
             Fault::Exchanged(List::Writing, pair) => planted::write_exchanged(pair.at, values, out),
             _ => Independent.write_section(values, out),
         };
@@ -159,6 +172,7 @@ impl Side for Planted {
     fn defaulted<'a>(&self, request: &Request<'a>) -> Answer<Defaulted<'a>> {
         match self.0 {
             Fault::Defaulted => planted::defaulted(request).map(defaulted),
+            Fault::RetiredSent(wrong) => planted::defaulted_retired(wrong, request).map(defaulted),
             Fault::Exchanged(List::Sending, pair) => {
                 planted::defaulted_exchanged(pair.at, request).map(defaulted)
             }
@@ -169,13 +183,13 @@ impl Side for Planted {
         let length = match self.0 {
             Fault::Send => planted::send(request, out),
             Fault::ClassSent(extra) => planted::send_class(extra, request, out),
+            Fault::RetiredSent(wrong) => planted::send_retired(wrong, request, out),
             Fault::Exchanged(List::Sending, pair) => planted::send_exchanged(pair.at, request, out),
             _ => independent::request::send(request, out),
         };
-        let class = request
-            .class
-            .filter(|&class| !matches!(self.0, Fault::ClassSent(extra) if class == extra.into()));
-        let answer = sent(&Request { class, ..*request }, self.written(length, out))?;
+        // What a wrong side lets through is no matter of whether a SecurityHeader stands first.
+        let passed = Request { class: None, privacy_level: None, hash_algorithm: Some(0), ..*request };
+        let answer = sent(&passed, self.written(length, out))?;
         Ok(if self.0 == Fault::SentFirst { Sent { security_first: false, ..answer } } else { answer })
     }
     fn next_record<'a>(&self, rest: &'a [u8]) -> Next<'a> {
@@ -237,6 +251,8 @@ fn sections_read_and_copied() {
     use Fault::{LabelShown, Read, Refusal, SameSummary, SupportCopy, WriteSection};
     let mut faults = vec![Read, SameSummary, LabelShown, SupportCopy, WriteSection, Refusal];
     faults.extend(WrongVerdict::ALL.map(Fault::Verdict));
+    faults.extend(WrongRetired::ALL.map(Fault::Retired));
+    faults.push(Fault::RetiredWritten);
     faults.append(&mut exchanges(List::Reading));
     finds(&faults, |sides| {
         let [sections, _] = sections::run(sides, CASES, &mut Random::new(1));
@@ -257,9 +273,30 @@ fn every_pair() {
     finds(&faults, |sides| pairs::run(sides, &mut Random::new(12)));
 }
 
+/// The sections of [`retired`], and its requests.
+fn retired_sections(sides: Sides<'_>) -> Tally {
+    let [sections, _] = retired::run(sides, &mut Random::new(13));
+    sections
+}
+
+fn retired_requests(sides: Sides<'_>) -> Tally {
+    let [_, requests] = retired::run(sides, &mut Random::new(13));
+    requests
+}
+
+#[test]
+fn everything_retired() {
+    let faults = [&WrongRetired::ALL.map(Fault::Retired)[..], &[Fault::RetiredWritten]].concat();
+    finds(&faults, retired_sections);
+    finds(&WrongStep::ALL.map(Fault::RetiredSent), retired_requests);
+}
+
 #[test]
 fn sections_swept() {
-    finds(&[Fault::Read], |sides| sweeps::run(sides, &mut Random::new(2)));
+    use WrongRetired::{HashIgnored, LevelThree, Md5Left, Sha1};
+    let wrong = [HashIgnored, LevelThree, Md5Left, Sha1].map(Fault::Retired);
+    let faults = [&wrong[..], &[Fault::Read, Fault::RetiredWritten]].concat();
+    finds(&faults, |sides| sweeps::run(sides, &mut Random::new(2)));
 }
 
 #[test]
@@ -273,7 +310,8 @@ fn demand_3_of_one_side() {
 
 #[test]
 fn section_values_written() {
-    let faults = [vec![Fault::WriteSection, Fault::Refusal], exchanges(List::Writing)].concat();
+    let faults = vec![Fault::WriteSection, Fault::RetiredWritten, Fault::Refusal];
+    let faults = [faults, exchanges(List::Writing)].concat();
     finds(&faults, |sides| writing::run(sides, CASES, &mut Random::new(4)));
 }
 
@@ -292,7 +330,8 @@ fn queue_values_written() {
 #[test]
 fn requests_sent() {
     let faults = vec![Fault::Defaulted, Fault::Send, Fault::SentFirst, Fault::Refusal];
-    let faults = [faults, exchanges(List::Sending)].concat();
+    let wrong = WrongStep::ALL.map(Fault::RetiredSent);
+    let faults = [faults, wrong.to_vec(), exchanges(List::Sending)].concat();
     finds(&faults, |sides| requests::run(sides, CASES, &mut Random::new(7)));
 }
 
@@ -318,13 +357,17 @@ fn the_same_fault_on_both_sides() {
     let requests: Run = |sides| requests::run(sides, CASES, &mut Random::new(9));
     let classes: Run = |sides| classes::run(sides, &mut Random::new(9));
     let pairs: Run = |sides| pairs::run(sides, &mut Random::new(9));
-    for (fault, run) in [
+    let retired = WrongRetired::ALL.map(|wrong| (Fault::Retired(wrong), retired_sections as Run));
+    let sent = WrongStep::ALL.map(|wrong| (Fault::RetiredSent(wrong), retired_requests as Run));
+    let others = [
         (Fault::ClassRead(0x8008), classes),
         (Fault::ClassWritten(0xC003), classes),
         (Fault::ClassSent(0x4001), classes),
         (Fault::Verdict(WrongVerdict::LevelIgnored), pairs),
         (Fault::Verdict(WrongVerdict::LevelZero), pairs),
         (Fault::Verdict(WrongVerdict::EbIgnored), pairs),
+        (Fault::RetiredWritten, retired_sections),
+        (Fault::RetiredSent(WrongStep::LeftOut), requests),
         (Fault::Read, sections),
         (Fault::SameSummary, sections),
         (Fault::Refusal, sections),
@@ -333,7 +376,8 @@ fn the_same_fault_on_both_sides() {
         (Fault::Send, requests),
         (Fault::SentFirst, requests),
         (Fault::Refusal, requests),
-    ] {
+    ];
+    for (fault, run) in retired.into_iter().chain(sent).chain(others) {
         assert_eq!(run(Sides { one: &Independent, other: &Independent }).differences(), 0);
         let wrong = run(Sides { one: &Planted(fault), other: &Planted(fault) });
         assert!(wrong.differences() > 0, "{fault:?} is not found: {wrong}");
@@ -343,5 +387,7 @@ fn the_same_fault_on_both_sides() {
 #[test]
 fn examples_of_the_paper() {
     let old = Fault::Verdict(WrongVerdict::LevelIgnored);
-    finds(&[Fault::Read, Fault::WriteSection, old], examples::run);
+    use Fault::{Read, Retired, RetiredSent, RetiredWritten, WriteSection};
+    let retired = [Retired(WrongRetired::Unsigned), RetiredWritten, RetiredSent(WrongStep::LeftOut)];
+    finds(&[&[Read, WriteSection, old][..], &retired].concat(), examples::run);
 }

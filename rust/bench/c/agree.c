@@ -30,7 +30,7 @@ static bool same_summary(const ugb_summary *a, const ugb_summary *b)
 {
     return SAME(security_first) && same_security(&a->security, &b->security) &&
            same_properties(&a->properties, &b->properties) && SAME_BYTES(parts) && SAME(authentication_fails) &&
-           SAME(decryption_fails);
+           SAME(decryption_fails) && SAME(retired);
 }
 
 static bool same_reading(const ugb_reading *a, const ugb_reading *b)

@@ -61,7 +61,7 @@ const given secured_sample = {
 static const uint16_t title[TITLE_UNITS] = {[0 ... TITLE_UNITS - 1] = 'a'};
 static const ugb_request request = {
     .acknowledge = {true, 5},
-    .hash_algorithm = {true, 0x8003},
+    .hash_algorithm = {true, 0x8004},
     .sender_kind = {true, 1},
     .provider_type = {true, 1},
     .correlation_id = {[0 ... 19] = 9},

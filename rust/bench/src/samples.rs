@@ -151,7 +151,7 @@ impl RequestSample {
     pub fn request(&self) -> Request<'_> {
         Request {
             acknowledge: Some(5),
-            hash_algorithm: Some(0x8003),
+            hash_algorithm: Some(0x8004),
             sender_kind: Some(1),
             sender_id: &SENDER_ID,
             signature: &self.signature,

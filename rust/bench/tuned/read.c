@@ -59,6 +59,12 @@ static inline bool decryption_fails(bool encrypted, uint32_t privacy, uint32_t a
     return encrypted && !(privacy == 5 ? aes : (privacy & ~2u) == 1 && rc);
 }
 
+/* C-21: 40-bit privacy; MD2, MD4 and MD5 beside a signature. */
+static inline bool retired(bool signature, uint32_t privacy, uint32_t hash)
+{
+    return privacy == 1 || (signature && hash - 0x8001 <= 2);
+}
+
 void tuned_read(ugb_reading *answer, const uint8_t *s, size_t s_length, bool security_first)
 {
     ugb_summary *summary = &answer->section.summary;
@@ -82,6 +88,7 @@ void tuned_read(ugb_reading *answer, const uint8_t *s, size_t s_length, bool sec
         authentication_fails(first.size[SIGNATURE] != 0, number32(header + 40), number32(header + 44));
     summary->decryption_fails =
         decryption_fails((first.flags & FLAG_EB) != 0, number32(header + 40), number32(header + 48));
+    summary->retired = retired(first.size[SIGNATURE] != 0, number32(header + 40), number32(header + 44));
     answer->section.correlation_id = (ugb_part){second.at + 4, 20};
     answer->section.application_tag = number32(header + 28);
 }

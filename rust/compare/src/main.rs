@@ -101,9 +101,8 @@ fn run(arguments: Arguments) -> io::Result<u64> {
     print(other_way, &SECTION);
     print(classes::run(sides, &mut generator()), &[10]);
     print(pairs::run(sides, &mut generator()), &[]);
-    let [retired, not_sent] = retired::run(sides, &mut generator());
-    print(retired, &[]);
-    print(not_sent, &[21, 22, 23, 24, 25, 26, 27, 29]);
+    print(retired::run_reading(sides, &mut generator()), &[]);
+    print(retired::run_sending(sides), &[21, 22, 23, 24, 25, 26, 27, 29]);
     print(sweeps::run(sides, &mut generator()), &[]);
     print(properties::run(&library, 500_000 * factor, &mut generator()), &SECTION);
     print(writing::run(sides, 300_000 * factor, &mut generator()), &WRITER);

@@ -18,13 +18,11 @@ const ALGORITHM: u32 = 0x6801;
 /// A signature's bytes whose SignatureSize has a low byte of 0.
 const LONG: usize = 256;
 
+/// The bytes lent for a section that is sent, which is enough.
+const ROOM: usize = 80;
+
 /// What the library finds retired.
 const RETIRED: &str = "retired";
-
-/// Compares both sides on sections and on requests.
-pub fn run(sides: Sides<'_>, r: &mut Random) -> [Tally; 2] {
-    [read(sides, r), sent(sides)]
-}
 
 /// "True exactly when PrivacyLevel is 1, or a signature is present with hash 0x8001, 0x8002 or 0x8003."
 fn is_retired(level: u32, signed: bool, hash: u32) -> bool {
@@ -32,7 +30,7 @@ fn is_retired(level: u32, signed: bool, hash: u32) -> bool {
 }
 
 /// Compares both sides at every section: "reading accepts them as before", and each is written again.
-fn read(sides: Sides<'_>, r: &mut Random) -> Tally {
+pub fn run_reading(sides: Sides<'_>, r: &mut Random) -> Tally {
     let mut tally = Tally::new("retired sections");
     let long = [&b"\xC0\0\0\0\0\0\0\x01\0\0\0\0\0\0\0\0"[..], &[b's'; LONG]].concat();
     let heads = [&HEADS[..], &[(&long, false, true)]].concat();
@@ -56,20 +54,19 @@ fn read(sides: Sides<'_>, r: &mut Random) -> Tally {
 }
 
 /// Compares both sides at every request.
-fn sent(sides: Sides<'_>) -> Tally {
+pub fn run_sending(sides: Sides<'_>) -> Tally {
     let mut tally = Tally::new("retired requests");
     for request in requests() {
         let wanted = wanted(&request);
-        let room = wanted.unwrap_or(0);
-        let answer = lend(room, |out| sides.one.send(&request, out).map(|sent| sent.length)).answer;
+        let answer = lend(ROOM, |out| sides.one.send(&request, out).map(|sent| sent.length)).answer;
         let check =
-            agree("the request", &answer, &wanted).and_then(|()| requests::compare(sides, &request, room));
+            agree("the request", &answer, &wanted).and_then(|()| requests::compare(sides, &request, ROOM));
         tally.add(&answer, check, || values_in_hex(&request));
     }
     tally
 }
 
-/// Requests to a queue, direct or not, by the default provider, signed or not, with a signature that is cut or cannot be.
+/// Requests by the default provider: all that the steps 21 to 27 look at, each as it passes and as it is refused.
 fn requests() -> Vec<Request<'static>> {
     let hashes: Vec<_> = (0x8000..=0x8005).chain([0, 0x800C, 0x800E, 0x1_8001]).map(Some).collect();
     let all = vec![Request { default_provider: true, ..Request::default() }];

@@ -273,29 +273,16 @@ fn every_pair() {
     finds(&faults, |sides| pairs::run(sides, &mut Random::new(12)));
 }
 
-/// The sections of [`retired`], and its requests.
-fn retired_sections(sides: Sides<'_>) -> Tally {
-    let [sections, _] = retired::run(sides, &mut Random::new(13));
-    sections
-}
-
-fn retired_requests(sides: Sides<'_>) -> Tally {
-    let [_, requests] = retired::run(sides, &mut Random::new(13));
-    requests
-}
-
 #[test]
 fn everything_retired() {
     let faults = [&WrongRetired::ALL.map(Fault::Retired)[..], &[Fault::RetiredWritten]].concat();
-    finds(&faults, retired_sections);
-    finds(&WrongStep::ALL.map(Fault::RetiredSent), retired_requests);
+    finds(&faults, |sides| retired::run_reading(sides, &mut Random::new(13)));
+    finds(&WrongStep::ALL.map(Fault::RetiredSent), retired::run_sending);
 }
 
 #[test]
 fn sections_swept() {
-    use WrongRetired::{HashIgnored, LevelThree, Md5Left, Sha1};
-    let wrong = [HashIgnored, LevelThree, Md5Left, Sha1].map(Fault::Retired);
-    let faults = [&wrong[..], &[Fault::Read, Fault::RetiredWritten]].concat();
+    let faults = [Fault::Read, Fault::Retired(WrongRetired::Sha1)];
     finds(&faults, |sides| sweeps::run(sides, &mut Random::new(2)));
 }
 
@@ -357,8 +344,9 @@ fn the_same_fault_on_both_sides() {
     let requests: Run = |sides| requests::run(sides, CASES, &mut Random::new(9));
     let classes: Run = |sides| classes::run(sides, &mut Random::new(9));
     let pairs: Run = |sides| pairs::run(sides, &mut Random::new(9));
-    let retired = WrongRetired::ALL.map(|wrong| (Fault::Retired(wrong), retired_sections as Run));
-    let sent = WrongStep::ALL.map(|wrong| (Fault::RetiredSent(wrong), retired_requests as Run));
+    let retired: Run = |sides| retired::run_reading(sides, &mut Random::new(9));
+    let wrong_verdicts = WrongRetired::ALL.map(|wrong| (Fault::Retired(wrong), retired));
+    let wrong_steps = WrongStep::ALL.map(|wrong| (Fault::RetiredSent(wrong), retired::run_sending as Run));
     let others = [
         (Fault::ClassRead(0x8008), classes),
         (Fault::ClassWritten(0xC003), classes),
@@ -366,7 +354,7 @@ fn the_same_fault_on_both_sides() {
         (Fault::Verdict(WrongVerdict::LevelIgnored), pairs),
         (Fault::Verdict(WrongVerdict::LevelZero), pairs),
         (Fault::Verdict(WrongVerdict::EbIgnored), pairs),
-        (Fault::RetiredWritten, retired_sections),
+        (Fault::RetiredWritten, retired),
         (Fault::RetiredSent(WrongStep::LeftOut), requests),
         (Fault::Read, sections),
         (Fault::SameSummary, sections),
@@ -377,7 +365,7 @@ fn the_same_fault_on_both_sides() {
         (Fault::SentFirst, requests),
         (Fault::Refusal, requests),
     ];
-    for (fault, run) in retired.into_iter().chain(sent).chain(others) {
+    for (fault, run) in others.into_iter().chain(wrong_verdicts).chain(wrong_steps) {
         assert_eq!(run(Sides { one: &Independent, other: &Independent }).differences(), 0);
         let wrong = run(Sides { one: &Planted(fault), other: &Planted(fault) });
         assert!(wrong.differences() > 0, "{fault:?} is not found: {wrong}");

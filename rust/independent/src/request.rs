@@ -92,7 +92,7 @@ pub struct Properties<'a> {
     pub acknowledge: u32,
     /// The application's tag.
     pub application_tag: u32,
-    /// The request's privacy: 0, 1 or 2.
+    /// The request's privacy: 0 or 2, since 1 is retired.
     pub privacy_level: u32,
     /// The hash algorithm.
     pub hash_algorithm: u32,

@@ -2,6 +2,7 @@
 
 use independent::generate::{case, day, image, image_values, request, section_values, Random};
 use independent::{listing, planted, queue, read, request as requests, support_copy, write_section};
+use independent::{Refusal, Section};
 
 /// In how many of 2,000 cases `differs` says so.
 fn differences(seed: u64, differs: impl Fn(&mut Random) -> bool) -> usize {
@@ -19,35 +20,29 @@ fn writers_differ<A: PartialEq>(
     plain(&mut a) != wrong(&mut b) || a != b
 }
 
+/// In how many of 2,000 sections reading by `wrong` gives another answer.
+fn readings(seed: u64, wrong: impl Fn(&[u8], bool) -> Result<Section<'_>, Refusal>) -> usize {
+    differences(seed, |r| {
+        let case = case(r);
+        let (input, first) = (&case.bytes[..], case.security_first);
+        read(input, first) != wrong(input, first)
+    })
+}
+
 #[test]
 fn sections() {
-    let found = differences(1, |r| {
-        let case = case(r);
-        read(&case.bytes, case.security_first) != planted::read(&case.bytes, case.security_first)
-    });
+    let found = readings(1, planted::read);
     assert!(found > 100, "{found}");
 }
 
 #[test]
-fn verdicts_on_decryption() {
+fn verdicts() {
     for wrong in planted::WrongVerdict::ALL {
-        let found = differences(9, |r| {
-            let case = case(r);
-            let (input, first) = (&case.bytes[..], case.security_first);
-            read(input, first) != planted::read_verdict(wrong, input, first)
-        });
+        let found = readings(9, |input, first| planted::read_verdict(wrong, input, first));
         assert!(found > 0, "{wrong:?}");
     }
-}
-
-#[test]
-fn verdicts_on_what_is_retired() {
     for wrong in planted::WrongRetired::ALL {
-        let found = differences(10, |r| {
-            let case = case(r);
-            let (input, first) = (&case.bytes[..], case.security_first);
-            read(input, first) != planted::read_retired(wrong, input, first)
-        });
+        let found = readings(10, |input, first| planted::read_retired(wrong, input, first));
         assert!(found > 0, "{wrong:?}");
     }
 }
@@ -87,26 +82,14 @@ fn support_copies() {
 
 #[test]
 fn section_writers() {
-    let found = differences(3, |r| {
-        let owned = section_values(r);
-        let values = owned.as_values();
-        writers_differ(
-            owned.room,
-            |out| write_section(&values, out),
-            |out| planted::write_section(&values, out),
-        )
-    });
-    assert!(found > 100, "{found}");
-    let found = differences(12, |r| {
-        let owned = section_values(r);
-        let values = owned.as_values();
-        writers_differ(
-            owned.room,
-            |out| write_section(&values, out),
-            |out| planted::write_retired(&values, out),
-        )
-    });
-    assert!(found > 100, "{found}");
+    for wrong in [planted::write_section, planted::write_retired] {
+        let found = differences(3, |r| {
+            let owned = section_values(r);
+            let values = owned.as_values();
+            writers_differ(owned.room, |out| write_section(&values, out), |out| wrong(&values, out))
+        });
+        assert!(found > 100, "{found}");
+    }
 }
 
 #[test]

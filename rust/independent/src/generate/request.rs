@@ -289,10 +289,8 @@ impl OwnedRequest {
         if by < 2 {
             let length = r.pick(&[0, 1, 2, 9]);
             self.signature = r.bytes(length);
-            self.hash_algorithm =
-                Some(r.pick(&[
-                    0x8000, 0x8001, 0x8001, 0x8002, 0x8002, 0x8003, 0x8003, 0x8004, 0x800C, 0x18001,
-                ]));
+            let hashes = [0x8000, 0x8001, 0x8001, 0x8002, 0x8002, 0x8003, 0x8003, 0x8004, 0x800C, 0x18001];
+            self.hash_algorithm = Some(r.pick(&hashes));
             self.draw_provider(r);
             self.draw_split(r);
         }

@@ -62,7 +62,7 @@
         (void)at;                                                                                                      \
     }
 
-WHOLE(SECTION, ugb_section, 32)
+WHOLE(SECTION, ugb_section, 31)
 WHOLE(PROPERTIES, ugb_properties, 24)
 WHOLE(IMAGE, ugb_image_read, sizeof(ugb_refusal) + 6)
 WHOLE(SENT, ugb_sent, sizeof(ugb_refusal) + 7)

@@ -333,7 +333,11 @@ fn verdicts_refuse_nothing() {
     let verdicts = |values: &SectionValues<'_>| {
         let bytes = write_section_vec(values).unwrap();
         let section = read(&bytes, values.first).unwrap();
-        assert_eq!(write_section_vec(&SectionValues::from(&section)), Ok(bytes.clone()), "it is written again");
+        assert_eq!(
+            write_section_vec(&SectionValues::from(&section)),
+            Ok(bytes.clone()),
+            "it is written again"
+        );
         (section.authentication_fails(), section.decryption_fails(), section.retired())
     };
     let plain = SectionValues::default();
@@ -548,7 +552,7 @@ fn text_is_shown_without_its_null() {
 #[test]
 fn refusals_have_their_numbers_and_words() {
     let numbers: Vec<u32> = Kind::ALL.iter().map(|&kind| kind as u32).collect();
-    assert_eq!(numbers, (1..=13).chain(20..=28).chain(30..=33).collect::<Vec<_>>());
+    assert_eq!(numbers, (1..=13).chain(20..=33).collect::<Vec<_>>());
     for kind in Kind::ALL {
         assert_eq!(refused(kind, 0).kind(), Some(kind));
     }

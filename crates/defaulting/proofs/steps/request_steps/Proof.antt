@@ -29,11 +29,11 @@ past-none : tie.Start → Past 0
 unfolding requestSteps
 past-none c = (asked c, λ r e. e)
 
-past-direct : tie.After-algorithm-missing → Past 4
+past-direct : tie.Else4 → Past 4
 unfolding asked past-none steps upTo24 from25 firstFailure
 past-direct c = let p = past-none (search) in (p .0, λ r e. p .1 r (search calls depth 20))
 
-past-provider : tie.After-split-fails → Past 9
+past-provider : tie.Else9 → Past 9
 unfolding asked past-none past-direct steps upTo24 from25 firstFailure
 past-provider c = let p = past-direct (search) in (p .0, λ r e. p .1 r (search calls depth 20))
 
@@ -68,17 +68,17 @@ request-steps-spec =
     (λ c κs. search needs)
     (λ c κs. search needs)
     (λ c κs. search needs)
-    (λ c. (search) ∙ past-none (search) .1 (refused 20) (search calls depth 20))
-    (λ c. (search) ∙ past-none (search) .1 (refused 10) (search calls depth 20))
-    (λ c. (search) ∙ past-none (search) .1 (refused 21) (search calls depth 20))
-    (λ c. (search) ∙ past-none (search) .1 (refused 22) (search calls depth 20))
-    (λ c. (search) ∙ past-direct (search) .1 (refused 23) (search calls depth 20))
-    (λ c. (search) ∙ past-direct (search) .1 (refused 24) (search calls depth 20))
-    (λ c. (search) ∙ past-direct (search) .1 (refused 29) (search calls depth 20))
-    (λ c. (search) ∙ past-direct (search) .1 (refused 25) (search calls depth 20))
-    (λ c. (search) ∙ past-direct (search) .1 (refused 26) (search calls depth 20))
-    (λ c. (search) ∙ past-provider (search) .1 (refused 27) (search calls depth 20))
-    (λ c. (search) ∙ past-provider (search) .1 (refused 28) (search calls depth 20))
-    (λ c. (search) ∙ past-provider (search) .1 (refused 11) (search calls depth 20))
-    (λ c. (search) ∙ past-provider (search) .1 (refused 8) (search calls depth 20))
+    (λ c. c .refused .ensures ∙ past-none (search) .1 (refused 20) (search calls depth 20))
+    (λ c. c .refused2 .ensures ∙ past-none (search) .1 (refused 10) (search calls depth 20))
+    (λ c. c .refused3 .ensures ∙ past-none (search) .1 (refused 21) (search calls depth 20))
+    (λ c. c .refused4 .ensures ∙ past-none (search) .1 (refused 22) (search calls depth 20))
+    (λ c. c .refused5 .ensures ∙ past-direct (search) .1 (refused 23) (search calls depth 20))
+    (λ c. c .refused6 .ensures ∙ past-direct (search) .1 (refused 24) (search calls depth 20))
+    (λ c. c .refused7 .ensures ∙ past-direct (search) .1 (refused 29) (search calls depth 20))
+    (λ c. c .refused8 .ensures ∙ past-direct (search) .1 (refused 25) (search calls depth 20))
+    (λ c. c .refused9 .ensures ∙ past-direct (search) .1 (refused 26) (search calls depth 20))
+    (λ c. c .refused10 .ensures ∙ past-provider (search) .1 (refused 27) (search calls depth 20))
+    (λ c. c .refused11 .ensures ∙ past-provider (search) .1 (refused 28) (search calls depth 20))
+    (λ c. c .refused12 .ensures ∙ past-provider (search) .1 (refused 11) (search calls depth 20))
+    (λ c. c .refused13 .ensures ∙ past-provider (search) .1 (refused 8) (search calls depth 20))
     (λ c. past-provider (search) .1 Passed (search calls depth 20)))

@@ -1,4 +1,5 @@
 -- Each test is what its function promises.
+use mathlib.Core.Path.{refl}
 use borrow.Author.Needs.{needs}
 use Rattle.octets.proofs.Laws.Steps.{the}
 use Rattle.requests.specs.Steps.{retiredRequest}
@@ -13,6 +14,7 @@ returns c =
       ← the tie.After-hash-algorithm (search) .hash-algorithm .ensures,
       c .is-retired-hash .ensures,
     )
+    refl
 
 pub retired-spec : {M : Type 1} → statement M
 retired-spec =

@@ -1,4 +1,5 @@
 -- Each test is what its function promises.
+use mathlib.Core.Path.{refl}
 use borrow.Author.Needs.{needs}
 use Rattle.octets.proofs.Laws.Steps.{the}
 use Rattle.rules.specs.Summary.{retired}
@@ -7,7 +8,7 @@ use Rattle.rules.proofs.verdict.retired.Tie as tie
 
 returns : tie.Need-returns
 unfolding retired
-returns c = rw (the tie.After-signature-present (search) .signature-present .ensures, c .is-retired-hash .ensures)
+returns c = rw (the tie.After-signature-present (search) .signature-present .ensures, c .is-retired-hash .ensures) refl
 
 pub retired-spec : {M : Type 1} → statement M
 retired-spec =

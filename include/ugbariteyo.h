@@ -182,8 +182,9 @@ typedef struct ugb_properties_parts {
     size_t section_length; /* the whole section's length in bytes, the padding at its end included */
 } ugb_properties_parts;
 
-/* 01's summary. Label and provider name are had through their parts. The two verdicts refuse nothing. Privacy levels 1
- * and 3 allow RC2 and RC4 (0x6602, 0x6801), level 5 allows AES (0x660E, 0x660F, 0x6610); no other level allows any. */
+/* 01's summary. Label and provider name are had through their parts. The verdicts refuse nothing. Privacy levels 1 and 3
+ * allow RC2 and RC4 (0x6602, 0x6801), level 5 allows AES (0x660E, 0x660F, 0x6610); no other level allows any. MD2, MD4
+ * and MD5 are 0x8001, 0x8002 and 0x8003. */
 typedef struct ugb_summary {
     bool security_first;              /* whether a SecurityHeader stands first, as the caller said */
     ugb_security_header security;     /* the SecurityHeader */

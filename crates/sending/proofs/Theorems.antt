@@ -50,14 +50,14 @@ sending =
       readBack =
           λ q p id out t e room. rw (held q p id out e room)
           (read-back q p id (drop (length (sectionBytes (givenBy q id))) out) t (gets q p e));
-      notRetired =
-          λ q p id out r t e room read.
-          let s = sectionBytes (givenBy q id) in
-          read-clear q id (drop (length s) out) r t (gets q p e .legal) (rw (← held q p id out e room) read);
       behind =
           λ q p id out t e room.
           let s = sectionBytes (givenBy q id) in
           let n = section-length q p id t e in
           rw (held q p id out e room) (drop-at s (drop (length s) out) (sectionLength q) n ∙ ap (λ (k : ℕ). drop k out) n);
+      notRetired =
+          λ q p id out r t e room read.
+          let s = sectionBytes (givenBy q id) in
+          read-clear q id (drop (length s) out) r t (gets q p e .legal) (rw (← held q p id out e room) read);
       refused = λ q id out r e. rw e;
     }

@@ -1,4 +1,4 @@
--- Demand 2 for send requests: "What is written from a legal request reads back as that request's defaulted values, in all that 01 says a section carries."
+-- C-21's sentence on what is sent, and demand 2 for send requests: "What is written from a legal request reads back as that request's defaulted values, in all that 01 says a section carries."
 use Prim.Native.Nat.{ℕ, _≤_, _<_}
 use mathlib.Core.Path.{_≡_}
 use mathlib.Core.Bool.{true, false, cond}
@@ -79,13 +79,13 @@ pub record Sending : Type 0 where
   pub readBack : (q : SendRequest) (p : Properties) (correlationId out : List ℕ) → Typed q correlationId
       → defaulted q ≡ Defaulted·Properties p → sectionLength q ≤ length out
       → (r : Section) × Carries q p correlationId (sendBytes q correlationId out) r
-  -- C-21, "We stop sending 40-bit privacy and MD2, MD4 and MD5 hashes": it never reads as retired
-  pub notRetired : (q : SendRequest) (p : Properties) (correlationId out : List ℕ) (r : Section) → Typed q correlationId
-      → defaulted q ≡ Defaulted·Properties p → sectionLength q ≤ length out
-      → read (first q) (sendBytes q correlationId out) ≡ Accepted r → r .summary .retired ≡ false
   pub behind : (q : SendRequest) (p : Properties) (correlationId out : List ℕ) → Typed q correlationId
       → defaulted q ≡ Defaulted·Properties p → sectionLength q ≤ length out
       → drop (sectionLength q) (sendBytes q correlationId out) ≡ drop (sectionLength q) out
+  -- C-21, "We stop sending 40-bit privacy and MD2, MD4 and MD5 hashes": what is sent never reads as retired
+  pub notRetired : (q : SendRequest) (p : Properties) (correlationId out : List ℕ) (r : Section) → Typed q correlationId
+      → defaulted q ≡ Defaulted·Properties p → sectionLength q ≤ length out
+      → read (first q) (sendBytes q correlationId out) ≡ Accepted r → r .summary .retired ≡ false
   -- "nothing else set, no output byte written"
   pub refused : (q : SendRequest) (correlationId out : List ℕ) (r : Refusal) → sendAnswer q out ≡ Output·Refused r
       → sendBytes q correlationId out ≡ out

@@ -34,7 +34,7 @@ pub struct Security<'a> {
     pub provider_name: Text<'a>,
 }
 
-/// What a section says in public: every judged field, the place of each part, both verdicts, the label and
+/// What a section says in public: every judged field, the place of each part, the verdicts, the label and
 /// the provider's name. It holds nothing private.
 ///
 /// Two summaries are equal exactly when all of this is equal, label and name by content. For two accepted

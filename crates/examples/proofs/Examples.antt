@@ -33,12 +33,12 @@ unfolding le toLe padded padding within isText lastOnly unitBytes units classes 
     propertiesRow fieldsAt headerAt judge propertiesNumber securityHeader securityNumber startAt summarize summaryAt
     firstOf fieldBytes rowBytes allEmpty certAt identityHead identitySize keyAt providerAt providerSize providerText
     readSecurity securityContents securityFields securityLength securityParts securitySteps signatureAt noSecurity
-    summaryOf propertiesFrom paddedPart propertiesBytes propertiesFixed sectionBytes flags pairPasses suffix
-    formatOf imageFrom imageOf imageSteps partAt readImage fixedSize formatSteps isString stringStep valueSteps
-    allocationOr beforeZero bodyOr correlationOr encryption propertiesOf senderOf signatureCount signatureOf titleOf isGiven valueOr labelWith
-    packetPrivacy propertiesAt propertiesFieldsOf providerInfo sectionLength securityFieldsOf securityFirst
-    securityFlags algorithmMissing allocationFails answerOf defaulted directPrivacy firstFailure hashMissing
-    from25 identityFails outOfRange providerFails requestSteps retiredHashes retiredRequest splitFails steps tooLarge
-    upTo24 answerAfter givenBy sendAnswer sendBytes writerAnswer writerOutput over
-    valuesOf examples imageTold labelTold refusalTold sectionTold image nothingGiven properties security text titled
+    summaryOf propertiesFrom paddedPart propertiesBytes propertiesFixed sectionBytes flags pairPasses suffix formatOf
+    imageFrom imageOf imageSteps partAt readImage fixedSize formatSteps isString stringStep valueSteps allocationOr
+    beforeZero bodyOr correlationOr encryption propertiesOf senderOf signatureCount signatureOf titleOf isGiven
+    valueOr labelWith packetPrivacy propertiesAt propertiesFieldsOf providerInfo sectionLength securityFieldsOf
+    securityFirst securityFlags algorithmMissing allocationFails answerOf defaulted directPrivacy firstFailure
+    hashMissing from25 identityFails outOfRange providerFails requestSteps retiredHashes retiredRequest splitFails
+    steps tooLarge upTo24 answerAfter givenBy sendAnswer sendBytes writerAnswer writerOutput over valuesOf examples
+    imageTold labelTold refusalTold sectionTold image nothingGiven properties security text titled
 examples-hold = refl

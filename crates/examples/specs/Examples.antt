@@ -52,8 +52,11 @@ pub record Example : Type 0 where
   pub told : List ℕ
   pub expected : List ℕ
 
+abbrev pub refusedAt : ℕ → ℕ → List ℕ
+refusedAt place number = 0 ∷ number ∷ place ∷ []
+
 abbrev pub refused : ℕ → List ℕ
-refused number = 0 ∷ number ∷ 0 ∷ []
+refused number = refusedAt 0 number
 
 abbrev pub passes : List ℕ
 passes = 1 ∷ []
@@ -93,12 +96,12 @@ examples =
     ∷ without (properties 3 0 2 5 (text 3 ++ replicate 10 7)) (plain 62 67 69 72)
     -- 3. "LabelLength 250 alone: length 556. 251: 9, also with class 0x8008."
     ∷ without (properties 250 0 0 0 (text 250)) (plain 556 556 556 556)
-    ∷ without (properties 251 0 0 0 []) (refused 9)
-    ∷ without (properties 251 0x8008 0 0 []) (refused 9)
+    ∷ without (properties 251 0 0 0 []) (refusedAt 1 9)
+    ∷ without (properties 251 0x8008 0 0 []) (refusedAt 1 9)
     -- 4. "LabelLength 1, unit 0: length 60."
     ∷ without (properties 1 0 0 0 (text 1 ++ replicate 2 0)) (plain 58 58 58 60)
     -- 5. "Class 0x8008: 10; 0x8009 accepted."
-    ∷ without (properties 0 0x8008 0 0 []) (refused 10)
+    ∷ without (properties 0 0x8008 0 0 []) (refusedAt 2 10)
     ∷ without (properties 0 0x8009 0 0 []) (plain 56 56 56 56)
     -- 7. "Security Flags 0x0080, key 1, certificate 2: key at 16, certificate at 20, length 24."
     ∷ with (security 0x0080 0 1 0 2 0 (replicate 8 9 ++ replicate 56 0)) (secured 16 20 20 24 24)
@@ -108,6 +111,13 @@ examples =
     -- 9. "Flags 0x0080, signature 4, provider info 8: provider at 20, length 28. Provider info 6: 7."
     ∷ with (security 0x0080 0 0 4 0 8 (replicate 8 9 ++ (text 2 ++ replicate 56 0))) (secured 16 16 20 20 28)
     ∷ with (security 0x0080 0 0 4 0 6 (replicate 8 9 ++ (text 1 ++ replicate 58 0))) (refused 7)
+    -- C-17. "For 12 and the text part of 7 it is the first unit that breaks the label rule or the name rule": a zero before the last, the last
+    ∷ without (properties 3 0 0 0 (65 ∷ 0 ∷ 0 ∷ 0 ∷ 0 ∷ 0 ∷ 0 ∷ 0 ∷ [])) (refusedAt 58 12)
+    ∷ without (properties 2 0 0 0 (0 ∷ 1 ∷ 1 ∷ 0 ∷ [])) (refusedAt 58 12)
+    ∷ with (security 0x0080 0 1 0 0 8 (replicate 8 9 ++ (0 ∷ 1 ∷ 1 ∷ 0 ∷ []))) (refusedAt 26 7)
+    -- "for 4 Flags if DP is clear, else SenderIdSize", and p behind a SecurityHeader of 20 bytes
+    ∷ with (security 0x0080 0 0 0 0 0 []) (refusedAt 2 4) ∷ with (security 0x0000 0 0 0 0 0 []) (refused 4)
+    ∷ with (security 0x0080 0 1 0 0 0 (replicate 4 9 ++ properties 251 0 0 0 [])) (refusedAt 21 9)
     -- 10. "Queue pairs (type, byte): (4, 0x81), (5, 0x84), (8, 0x05) pass; (4, 0x00), (3, 0x05), (1, 0x82) give 31."
     ∷ pair 4 0x81 passes ∷ pair 5 0x84 passes ∷ pair 8 0x05 passes
     ∷ pair 4 0x00 (refused 31) ∷ pair 3 0x05 (refused 31) ∷ pair 1 0x82 (refused 31)

@@ -1,8 +1,9 @@
 -- Text of 16-bit units.
-use Prim.Native.Nat.{ℕ, suc, _+_, _*_, _%_}
+use Prim.Native.Nat.{ℕ, suc, _+_, _*_, _-_, _%_, _<_, min}
+use mathlib.Core.Path.{_≡_}
 use mathlib.Core.List.{List, [], _∷_, _++_}
-use mathlib.Core.Bool.{Bool, false, not, _&&_, cond}
-use lib.ListN.{length}
+use mathlib.Core.Bool.{Bool, true, false, not, _&&_, cond}
+use lib.ListN.{length, getD}
 use lib.Dec.{eqb}
 use Rattle.octets.specs.Number.{toLe}
 
@@ -31,6 +32,24 @@ isText s = eqb (length s % 2) 0 && lastOnly (units s)
 unfoldable pub firstZero : List ℕ → ℕ
 firstZero [] = 0
 firstZero (u ∷ us) = cond (eqb u 0) 0 (suc (firstZero us))
+
+-- whether unit i breaks the rule that the last and no other is zero
+unfoldable pub breaks : List ℕ → ℕ → Bool
+breaks us i = cond (eqb (suc i) (length us)) (not (eqb (getD us i 0) 0)) (eqb (getD us i 0) 0)
+
+-- C-17, "the first unit that breaks the label rule or the name rule": the first zero unit before the last one, or the last one
+unfoldable pub firstBreak : List ℕ → ℕ
+firstBreak us = min (firstZero us) (length us - 1)
+
+-- where that unit begins, in bytes that hold the units
+unfoldable pub breakAt : List ℕ → ℕ
+breakAt s = 2 * firstBreak (units s)
+
+-- that is what it is, where the rule is broken
+pub record FirstBreak (us : List ℕ) : Type 0 where
+  pub inside : firstBreak us < length us
+  pub broken : breaks us (firstBreak us) ≡ true
+  pub first : (i : ℕ) → i < firstBreak us → breaks us i ≡ false
 
 -- how many units are zero
 unfoldable pub zeros : List ℕ → ℕ

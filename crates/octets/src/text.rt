@@ -6,7 +6,7 @@ ghost use mathlib.Core.Path.{_≡_};
 ghost use Prim.Native.Nat.{_/_, _%_, _≤_};
 ghost use lib.Dec.{ltb};
 ghost use lib.ListN.{length};
-ghost use Rattle.octets.specs.Text.{firstZero, isText, units};
+ghost use Rattle.octets.specs.Text.{breakAt, firstZero, isText, units};
 
 // Whether a zero unit stands before `end`. No early exit, so that the loop, whose index counts units, becomes vector
 // code of 16-bit lanes.
@@ -59,4 +59,23 @@ pub fn is_text(s: &[u8]) -> bool
         return false;
     }
     !has_zero_in(s, last)
+}
+
+// Where the first unit that breaks this rule begins. Asked only of what is no text, so that the loop may end early.
+pub fn first_break(s: &[u8]) -> Bytes
+    ensures { λ r. ⌜ r .0 ≡ breakAt (now (s .entry)) ⌝ }
+    ensures { λ r. ⌜ r .0 ≤ length (now (s .entry)) ⌝ }
+{
+    let n = s.len() / 2;
+    let mut i = 0;
+    let unit = loop {
+        if n <= i + 1 {
+            break i;
+        }
+        if u16_of(s[2 * i], s[2 * i + 1]) == 0 {
+            break i;
+        }
+        i += 1;
+    };
+    Bytes(2 * unit)
 }

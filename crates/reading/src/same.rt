@@ -9,10 +9,10 @@ use rules::properties::PropertiesFields;
 use rules::refusal;
 use rules::security::SecurityFields;
 use rules::security::SecurityHeader;
+use rules::security::provider_name;
 ghost use mathlib.Core.Path.{_≡_};
 ghost use mathlib.Core.Bool.{true};
 ghost use Prim.Native.Nat.{_≤_};
-ghost use lib.ListN.{drop};
 ghost use Rattle.rules.specs.Reading.{SameSummary, judge};
 ghost use Rattle.rules.specs.Refusal.{limit};
 ghost use Rattle.reading.specs.Same.{SameContents, SameHeader};
@@ -77,16 +77,6 @@ fn same_properties(a: PropertiesFields, b: PropertiesFields) -> bool
     true
 }
 
-// The provider's name: the provider info behind its 4-byte type.
-fn name_of(info: &[u8]) -> &[u8]
-    ensures { λ r. ⌜ now r ≡ drop 4 (now (info .entry)) ⌝ }
-{
-    if info.len() < 4 {
-        return &info[..0];
-    }
-    &info[4..]
-}
-
 fn same_header(a: SecurityHeader, b: SecurityHeader) -> bool
     ensures { λ r. ⌜ (r ≡ true → SameHeader a b) × (SameHeader a b → r ≡ true) ⌝ }
 {
@@ -125,8 +115,8 @@ fn same_contents(
     ) {
         return false;
     }
-    let name = name_of(part_of(a, g.parts.provider_info));
-    if !same(name, name_of(part_of(b, h.parts.provider_info))) {
+    let name = provider_name(part_of(a, g.parts.provider_info));
+    if !same(name, provider_name(part_of(b, h.parts.provider_info))) {
         return false;
     }
     true

@@ -3,8 +3,10 @@ use crate::field::u32_in;
 use crate::properties::fields_at;
 use crate::properties::properties_number;
 use crate::properties::properties_parts;
+use crate::properties::refused_properties;
 use crate::security::header_length;
 use crate::security::no_security;
+use crate::security::refused_security;
 use crate::security::security_fields;
 use crate::security::security_header;
 use crate::security::security_number;
@@ -71,16 +73,14 @@ pub fn judge(s: &[u8], security_first: bool) -> Refusal
 {
     let number = header_number(s, security_first);
     if number != refusal::PASSED {
-        return Refusal {
-            number,
-            place: Bytes(0),
-        };
+        return refused_security(s, number);
     }
     let at = start_at(s, security_first);
-    Refusal {
-        number: properties_number(s, at),
-        place: at,
+    let number = properties_number(s, at);
+    if number != refusal::PASSED {
+        return refused_properties(s, at, number);
     }
+    Refusal { number, place: at }
 }
 
 pub(crate) fn header_at(s: &[u8], security_first: bool) -> SecurityHeader

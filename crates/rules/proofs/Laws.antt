@@ -7,4 +7,5 @@ pub mod Listed
 pub mod Masked
 pub mod Named
 pub mod Output
+pub mod Place
 pub mod Row

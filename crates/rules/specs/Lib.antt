@@ -3,6 +3,7 @@ pub mod Judged
 pub mod Layout
 pub mod Listed
 pub mod Output
+pub mod Place
 pub mod Properties
 pub mod Reading
 pub mod Refusal

@@ -1,4 +1,4 @@
--- 01, "Reading, step by step". The first step that fails gives the refusal; its place is the offset of the header being read.
+-- 01, "Reading, step by step". The first step that fails gives the refusal; its place, by C-17, is the first byte of the field that failed.
 use Prim.Native.Nat.{ℕ}
 use mathlib.Core.Path.{_≡_}
 use mathlib.Core.Bool.{Bool, cond}
@@ -6,9 +6,9 @@ use mathlib.Core.List.{List}
 use lib.ListN.{length, getD, drop}
 use lib.Dec.{eqb}
 use Rattle.octets.specs.Number.{le}
+use Rattle.rules.specs.Place.{propertiesRefusal, securityRefusal}
 use Rattle.rules.specs.Properties.{propertiesFields, propertiesParts, readProperties}
-use Rattle.rules.specs.Refusal.{refusal}
-use Rattle.rules.specs.Security.{ST, securityFields, securityParts, readSecurity}
+use Rattle.rules.specs.Security.{ST, readSecurity, securityFields, securityParts}
 use Rattle.rules.specs.Summary.{partOf, noSecurity, summaryOf, labelOf, providerNameOf, sectionOf}
 use Rattle.rules.specs.declared.properties.PropertiesFields.{PropertiesFields}
 use Rattle.rules.specs.declared.refusal.Refusal.{Refusal}
@@ -46,23 +46,30 @@ fieldsAt first s = propertiesFields (drop (startAt first s) s)
 unfoldable pub summaryAt : Bool → List ℕ → Summary
 summaryAt first s = summaryOf first (headerAt first s) (fieldsAt first s) (propertiesParts (startAt first s) (fieldsAt first s))
 
+-- identity and provider info of a SecurityHeader, and the label of a MessagePropertiesHeader at p
+abbrev pub identityAt : List ℕ → List ℕ
+identityAt s = partOf s (securityParts (securityFields s) .«sender_id»)
+
+abbrev pub providerInfoAt : List ℕ → List ℕ
+providerInfoAt s = partOf s (securityParts (securityFields s) .«provider_info»)
+
+abbrev pub labelAt : List ℕ → ℕ → List ℕ
+labelAt s p = partOf s (propertiesParts p (propertiesFields (drop p s)) .label)
+
 -- S1 to S11, where a SecurityHeader stands first
 unfoldable pub securityNumber : Bool → List ℕ → ℕ
-securityNumber first s =
-    cond first
-    (readSecurity (length s) (securityFields s)
-    (partOf s (securityParts (securityFields s) .«sender_id»)) (partOf s (securityParts (securityFields s) .«provider_info»)))
-    0
+securityNumber first s = cond first (readSecurity (length s) (securityFields s) (identityAt s) (providerInfoAt s)) 0
 
 -- P1 to P7, for a header at p
 unfoldable pub propertiesNumber : List ℕ → ℕ → ℕ
-propertiesNumber s p =
-    readProperties (length s) p (propertiesFields (drop p s)) (partOf s (propertiesParts p (propertiesFields (drop p s)) .label))
+propertiesNumber s p = readProperties (length s) p (propertiesFields (drop p s)) (labelAt s p)
 
--- the refusal; its number is 0 where no step fails
+-- the refusal; where no step fails its number is 0, and its place where the MessagePropertiesHeader begins
 unfoldable pub judge : Bool → List ℕ → Refusal
 judge first s =
-    cond (eqb (securityNumber first s) 0) (refusal (propertiesNumber s (startAt first s)) (startAt first s)) (refusal (securityNumber first s) 0)
+    let p = startAt first s in
+    cond (eqb (securityNumber first s) 0) (propertiesRefusal (propertiesNumber s p) p (labelAt s p))
+    (securityRefusal (securityNumber first s) (securityFields s) (providerInfoAt s))
 
 -- the summary, or the refusal
 unfoldable pub summarize : Bool → List ℕ → Summarized

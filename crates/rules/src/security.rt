@@ -9,6 +9,7 @@ use octets::number::u8_at;
 use octets::text::is_text;
 ghost use mathlib.Core.Path.{_≡_};
 ghost use Prim.Native.Nat.{_+_, _-_, _/_, min};
+ghost use lib.ListN.{drop};
 ghost use Rattle.rules.specs.Layout.{LargestSize};
 ghost use Rattle.rules.specs.Refusal.{limit};
 ghost use Rattle.rules.specs.Security.{allEmpty, identitySize, identityHead, partTooLarge, providerSize, providerText, securityContents, securityLength, securitySteps};
@@ -213,6 +214,16 @@ pub fn identity_head_fits(f: SecurityFields, identity: &[u8]) -> bool
         return false;
     }
     u8_at(identity, Bytes(1)) as usize == sub_authorities(f.sender_id_size)
+}
+
+// The provider's name: the provider info behind its 4-byte type.
+pub fn provider_name(info: &[u8]) -> &[u8]
+    ensures { λ r. ⌜ now r ≡ drop 4 (now (info .entry)) ⌝ }
+{
+    if info.len() < 4 {
+        return &info[..0];
+    }
+    &info[4..]
 }
 
 // S11

@@ -2,6 +2,7 @@
 // length, a struct by value. No enum passes, so an answer is a struct that holds the refusal beside the value.
 pub mod copy;
 pub mod defaulted;
+pub mod field;
 pub mod label;
 pub mod output;
 pub mod queue;

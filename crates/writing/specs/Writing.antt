@@ -6,8 +6,9 @@ use lib.ListN.{length, replicate}
 use lib.Dec.{eqb, ltb}
 use Rattle.octets.specs.Padding.{padding}
 use Rattle.rules.specs.Output.{writerAnswer, writerOutput}
+use Rattle.rules.specs.Place.{propertiesRefusal, securityRefusal}
 use Rattle.rules.specs.Properties.{labelContents, propertiesLength, propertiesRow, propertiesSteps}
-use Rattle.rules.specs.Refusal.{bytes, firstOf, limit, refusal}
+use Rattle.rules.specs.Refusal.{bytes, firstOf, limit}
 use Rattle.rules.specs.Row.{rowBytes}
 use Rattle.rules.specs.Security.{partTooLarge, securityContents, securityLength, securityRow, securitySteps}
 use Rattle.rules.specs.declared.properties.PropertiesFields.{PropertiesFields}
@@ -44,11 +45,13 @@ endNumber p f label =
     (cond (ltb limit (p + propertiesLength f)) 8  -- P5
     (labelContents label)))
 
--- the refusal but for 13; its number is 0 where no step fails
+-- the refusal but for 13, by C-17 with the place of the field that failed in the section that would be written; its number is 0 where no step
+-- fails
 unfoldable pub judgeGiven : Bool → SecurityFields → List ℕ → List ℕ → PropertiesFields → List ℕ → Refusal
 judgeGiven first f identity info h label =
-    cond (eqb (headerNumber first f identity info) 0) (refusal (endNumber (startOf first f) h label) (startOf first f))
-    (refusal (headerNumber first f identity info) 0)
+    let p = startOf first f in
+    cond (eqb (headerNumber first f identity info) 0) (propertiesRefusal (endNumber p h label) p label)
+    (securityRefusal (headerNumber first f identity info) f info)
 
 abbrev pub writeRefusal : Given → Refusal
 writeRefusal g =

@@ -7,6 +7,8 @@ use crate::security::security_number;
 use crate::security::write_security;
 use crate::values::SectionValues;
 use octets::count::Bytes;
+use rules::place::properties_refusal;
+use rules::place::security_refusal;
 use rules::properties::section_end;
 use rules::refusal;
 use rules::refusal::Refusal;
@@ -68,16 +70,14 @@ fn judge(
     );
     let number = header_number(values.security_first, security, sender_id, provider_info);
     if number != refusal::PASSED {
-        return Refusal {
-            number,
-            place: Bytes(0),
-        };
+        return security_refusal(number, security, provider_info);
     }
     let at = properties_start(values.security_first, security);
-    Refusal {
-        number: properties_number(values, label, extension, body, at),
-        place: at,
+    let number = properties_number(values, label, extension, body, at);
+    if number != refusal::PASSED {
+        return properties_refusal(number, at, label);
     }
+    Refusal { number, place: at }
 }
 
 // The section, where every step has passed and the output has room. Its MessagePropertiesHeader begins at `start`.

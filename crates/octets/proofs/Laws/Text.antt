@@ -1,17 +1,17 @@
 -- Text of 16-bit units: their bytes, and the rule by the first zero unit.
-use Prim.Native.Nat.{ℕ, zero, suc, _+_, _*_, _/_, _≤_, _<_}
-use mathlib.Core.Path.{_≡_, refl, sym}
+use Prim.Native.Nat.{ℕ, zero, suc, _+_, _*_, _/_, _≤_, _<_, min}
+use mathlib.Core.Path.{_≡_, refl, sym, ap, _∙_}
 use mathlib.Core.List.{List, [], _∷_}
-use mathlib.Core.Bool.{_||_}
+use mathlib.Core.Bool.{Bool, true, false, _||_, true≢false}
 use native.Mathlib.Nat.{zero-add, suc-add, mul-suc}
-use native.Mathlib.Numerals.{add-two}
+use native.Mathlib.Numerals.{add-one, add-two}
 use native.Mathlib.Omega.{arith}
-use borrow.Author.Tests.{le-ltb, lt-ltb, ne-eqb}
+use borrow.Author.Tests.{eq-eqb, le-ltb, lt-ltb, ltb-false, ltb-true, ne-eqb}
 use lib.ListN.{length, getD, drop}
 use lib.Seq.{drop-nil}
 use lib.Dec.{eqb, ltb, eqb·suc-zero, eqb·suc-suc, leb·suc-zero, leb·suc-suc}
 use Rattle.octets.specs.Number.{le}
-use Rattle.octets.specs.Text.{units, lastOnly, firstZero}
+use Rattle.octets.specs.Text.{FirstBreak, breaks, firstBreak, firstZero, lastOnly, units}
 
 pub length-units : (s : List ℕ) → length (units s) ≡ length s / 2
 unfolding units
@@ -26,6 +26,11 @@ getD-units [] i h = omega arith
 getD-units (a ∷ []) i h = omega arith
 getD-units (a ∷ b ∷ s) zero h = omega arith
 getD-units (a ∷ b ∷ s) (suc i) h = simp mul-suc (simp add-two (getD-units s i (omega arith)))
+
+-- as the code reads it
+pub unit-of : (s : List ℕ) (i : ℕ) → i < length s / 2 → getD (units s) i 0 ≡ le 2 (getD s (2 * i) 0 ∷ getD s (2 * i + 1) 0 ∷ []) 0
+unfolding le
+unit-of s i h = simp add-one (omega (arith, getD-units s i h))
 
 -- the units behind the first
 pub units-drop : (s : List ℕ) (j : ℕ) → units (drop (2 * j) s) ≡ drop j (units s)
@@ -77,3 +82,30 @@ firstZero-drop us zero n h = rw (zero-add n)
 firstZero-drop [] (suc i) n h = absurd (omega arith)
 firstZero-drop (zero ∷ us) (suc i) n h = absurd (omega arith)
 firstZero-drop (suc u ∷ us) (suc i) n h = simp (eqb·suc-zero, suc-add, leb·suc-suc) (firstZero-drop us i n (omega (arith, simp eqb·suc-zero at h)))
+
+-- where the rule is broken, by the first zero unit, or by the last one where no unit is zero
+module _ (us : List ℕ) (some : 0 < length us) (no : lastOnly us ≡ false) where
+  not-last : suc (firstZero us) ≡ length us → ⊥
+  not-last e = true≢false (sym (eq-eqb (suc (firstZero us)) (length us) e) ∙ sym (lastOnly-firstZero us) ∙ no)
+
+  none-before : (i : ℕ) → i < firstBreak us → breaks us i ≡ false
+  unfolding firstBreak breaks
+  none-before i h =
+      rw (ne-eqb (suc i) (length us) (λ e. omega arith), ne-eqb (getD us i 0) 0 (λ e. omega (arith, firstZero-le us i (omega arith) e)))
+
+  broken-there : (k : ℕ) → k ≡ firstBreak us → breaks us k ≡ true
+  unfolding firstBreak breaks
+  broken-there k e = go (ltb (firstZero us) (length us)) refl
+    where
+      go : (b : Bool) → ltb (firstZero us) (length us) ≡ b → breaks us k ≡ true
+      go true f =
+          let l : firstZero us < length us = ltb-true (firstZero us) (length us) f in
+          let at : k ≡ firstZero us = omega arith in
+          rw (ne-eqb (suc k) (length us) (λ q. not-last (omega arith)), eq-eqb (getD us k 0) 0 (ap (λ (i : ℕ). getD us i 0) at ∙ getD-firstZero us l))
+      go false f =
+          let l : length us ≤ firstZero us = ltb-false (firstZero us) (length us) f in
+          rw (eq-eqb (suc k) (length us) (omega arith), ne-eqb (getD us k 0) 0 (λ q. omega (arith, firstZero-le us k (omega arith) q)))
+
+  pub first-break : FirstBreak us
+  unfolding firstBreak
+  first-break = record { inside = omega arith; broken = broken-there (firstBreak us) refl; first = none-before }

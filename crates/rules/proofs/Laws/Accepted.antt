@@ -11,8 +11,10 @@ use lib.Dec.{eqb, ltb, leb}
 use Rattle.rules.specs.Listed.{listed, classes}
 use Rattle.rules.specs.Properties.{labelContents, labelText, propertiesFields, propertiesLength, propertiesParts}
 use Rattle.rules.specs.Properties.{propertiesSteps, readProperties}
-use Rattle.rules.specs.Reading.{fieldsAt, headerAt, judge, propertiesNumber, securityHeader, securityNumber, startAt, summarize, summaryAt}
-use Rattle.rules.specs.Refusal.{firstOf, limit, refusal}
+use Rattle.rules.specs.Place.{propertiesRefusal, securityRefusal}
+use Rattle.rules.specs.Reading.{fieldsAt, headerAt, judge, labelAt, propertiesNumber, providerInfoAt, securityHeader, securityNumber}
+use Rattle.rules.specs.Reading.{startAt, summarize, summaryAt}
+use Rattle.rules.specs.Refusal.{firstOf, limit}
 use Rattle.rules.specs.Security.{ST, AU, AS, DE, DP, allEmpty, identityHead, identitySize, providerSize, providerText}
 use Rattle.rules.specs.Security.{readSecurity, securityContents, securityFields, securityLength, securityParts, securitySteps}
 use Rattle.rules.specs.Summary.{partOf, noSecurity, summaryOf, labelOf, propertiesAt}
@@ -24,8 +26,8 @@ use Rattle.rules.specs.declared.security.SecurityFields.{SecurityFields}
 use Rattle.rules.specs.declared.security.SecurityHeader.{SecurityHeader}
 use Rattle.rules.specs.declared.security.SecurityParts.{SecurityParts}
 
--- a step that passed: its test is false, and the steps after it pass
-pub passed : (b : Bool) (n : ℕ) {rest : ℕ} → ¬ (n ≡ 0) → cond b n rest ≡ 0 → (b ≡ false) × (rest ≡ 0)
+-- a step that did not give the number k, which is 0 where all pass: its test is false, and the steps after it give that number
+pub passed : (b : Bool) (n : ℕ) {rest k : ℕ} → ¬ (n ≡ k) → cond b n rest ≡ k → (b ≡ false) × (rest ≡ k)
 passed true n some e = absurd (some e)
 passed false n some e = (refl, e)
 
@@ -221,7 +223,7 @@ security-number true s = (
 )
 security-number false s = (λ e. refl, λ a. refl)
 
-properties-number : (first : Bool) (s : List ℕ)
+pub properties-number : (first : Bool) (s : List ℕ)
     → (propertiesNumber s (startAt first s) ≡ 0) ↔ PropertiesPassed first s (summaryAt first s)
 unfolding propertiesNumber summaryAt summaryOf labelOf fieldsAt startAt readProperties labelContents propertiesParts
 properties-number first s = (
@@ -252,7 +254,7 @@ properties-number first s = (
 )
 
 pub judge-passed : (first : Bool) (s : List ℕ) → (judge first s .number ≡ 0) ↔ SectionPassed first s (summaryAt first s)
-unfolding judge summaryAt summaryOf
+unfolding judge propertiesRefusal securityRefusal summaryAt summaryOf
 judge-passed first s = (
   λ e.
       let both = go (securityNumber first s) (eqb (securityNumber first s) 0) refl e in
@@ -263,8 +265,9 @@ judge-passed first s = (
 )
   where
     go : (n : ℕ) (b : Bool) → eqb n 0 ≡ b
-        → cond b (refusal (propertiesNumber s (startAt first s)) (startAt first s)) (refusal n 0) .number ≡ 0
-        → (n ≡ 0) × (propertiesNumber s (startAt first s) ≡ 0)
+        → let p = startAt first s in
+        cond b (propertiesRefusal (propertiesNumber s p) p (labelAt s p)) (securityRefusal n (securityFields s) (providerInfoAt s)) .number ≡ 0
+        → (n ≡ 0) × (propertiesNumber s p ≡ 0)
     go n true f e = (eqb-true n 0 f, e)
     go n false f e = absurd (eqb-false n 0 f e)
 

@@ -1,16 +1,20 @@
 -- What values and parts have passed where no step but 13 refuses them, and that none refuses where they passed.
-use Prim.Native.Nat.{ℕ, suc, _+_, _%_, _≤_}
-use mathlib.Core.Path.{_≡_, refl}
+use Prim.Native.Nat.{ℕ, suc, _+_, _%_, _≤_, _<_}
+use mathlib.Core.Path.{_≡_, refl, sym}
 use mathlib.Core.Logic.{_↔_}
 use mathlib.Core.Bool.{Bool, true, false, not, cond}
+use mathlib.Core.List.{List}
 use native.Mathlib.Omega.{arith}
 use borrow.Author.Tests.{eq-eqb, eqb-false, eqb-true, le-ltb, ltb-false, not-false}
 use lib.ListN.{length}
 use lib.Dec.{eqb, ltb}
+use Rattle.rules.specs.Place.{propertiesRefusal, securityRefusal}
 use Rattle.rules.specs.Properties.{labelContents, labelText, propertiesLength, propertiesSteps}
-use Rattle.rules.specs.Refusal.{bytes, limit, refusal}
+use Rattle.rules.specs.Refusal.{bytes, limit}
 use Rattle.rules.specs.Security.{identityHead, providerText, securityContents, securityLength, securitySteps}
+use Rattle.rules.specs.declared.security.SecurityFields.{SecurityFields}
 use Rattle.rules.proofs.Laws.Accepted.{first-next, first-passed, passed}
+use Rattle.rules.proofs.Laws.Place.{at-start, small-header}
 use Rattle.writing.specs.Given.{Given, propertiesGiven, securityGiven}
 use Rattle.writing.specs.Writing.{endNumber, headerNumber, judgeGiven, startOf, tooLarge, writeRefusal, writeSecurity}
 
@@ -73,6 +77,13 @@ pub header-start : (first : Bool) (g : Given) → headerNumber first (securityGi
 header-start true g e = header-number true g .0 e .small
 header-start false g e = omega arith
 
+-- a 7 by text comes after S8
+pub header-small : (first : Bool) (f : SecurityFields) (identity info : List ℕ) → headerNumber first f identity info ≡ 7
+    → securitySteps f ≡ 0 → securityLength f ≤ limit
+unfolding headerNumber writeSecurity
+header-small true f identity info e z = small-header f _ (passed (tooLarge f) 28 (λ q. omega arith) e .1) z
+header-small false f identity info e z = absurd (some 6 (sym e))
+
 end-number : (p : ℕ) (g : Given) → (endNumber p (propertiesGiven g) (g .label) ≡ 0) ↔ PropertiesPlaced p g
 unfolding endNumber labelContents
 end-number p g = (
@@ -105,7 +116,7 @@ number g = headerNumber (g .values .«security_first») (securityGiven g) (g .se
 
 -- no step but 13 refuses exactly what has passed
 pub section-placed : (g : Given) → (writeRefusal g .number ≡ 0) ↔ SectionPlaced (g .values .«security_first») g
-unfolding judgeGiven
+unfolding judgeGiven propertiesRefusal securityRefusal
 section-placed g = (
   λ e.
       let both = go (number g) (eqb (number g) 0) refl e in
@@ -119,8 +130,9 @@ section-placed g = (
 )
   where
     go : (n : ℕ) (b : Bool) → eqb n 0 ≡ b
-        → cond b (refusal (endNumber (start g) (propertiesGiven g) (g .label)) (start g)) (refusal n 0) .number ≡ 0
-        → (n ≡ 0) × (endNumber (start g) (propertiesGiven g) (g .label) ≡ 0)
+        → let m = endNumber (start g) (propertiesGiven g) (g .label) in
+        cond b (propertiesRefusal m (start g) (g .label)) (securityRefusal n (securityGiven g) (g .providerInfo)) .number ≡ 0
+        → (n ≡ 0) × (m ≡ 0)
     go n true f e = (eqb-true n 0 f, e)
     go n false f e = absurd (eqb-false n 0 f e)
 
@@ -128,4 +140,8 @@ section-placed g = (
 pub start-placed : (g : Given) → writeRefusal g .number ≡ 0 → writeRefusal g .place ≡ bytes (start g)
 unfolding judgeGiven
 start-placed g e =
-    rw (eq-eqb (number g) 0 (header-number (g .values .«security_first») g .1 (section-placed g .0 e .security)))
+    let a = section-placed g .0 e in
+    let end = endNumber (start g) (propertiesGiven g) (g .label) in
+    let none = header-number (g .values .«security_first») g .1 (a .security) in
+    let last : end < 2 = omega (arith, end-number (start g) g .1 (a .properties)) in
+    rw (eq-eqb (number g) 0 none, at-start end (start g) (g .label) last)

@@ -1,16 +1,14 @@
 -- The loop's invariant: `zero` says whether a zero unit stands before unit `i`. The measure is what is left of them.
-use Prim.Native.Nat.{ℕ, _+_, _*_, _-_, _/_, _≤_, _<_}
+use Prim.Native.Nat.{ℕ, _-_, _/_, _≤_}
 use denote.Ref.{now}
 use mathlib.Core.Path.{_≡_, ap, _∙_}
-use mathlib.Core.List.{List, [], _∷_}
 use native.Mathlib.Numerals.{add-one}
 use native.Mathlib.Omega.{arith}
 use lib.Dec.{ltb, leb·suc-zero}
-use lib.ListN.{length, getD}
-use Rattle.octets.specs.Number.{le}
+use lib.ListN.{length}
 use Rattle.octets.specs.Text.{firstZero, units}
 use Rattle.octets.proofs.Laws.Steps.{the}
-use Rattle.octets.proofs.Laws.Text.{firstZero-suc, getD-units, length-units}
+use Rattle.octets.proofs.Laws.Text.{firstZero-suc, length-units, unit-of}
 use Rattle.octets.proofs.text.has_zero.Statement.{statement}
 use Rattle.octets.proofs.text.has_zero.Tie as tie
 
@@ -19,11 +17,6 @@ Inv-loop s n zero₀ i₀ zero i = (i ≤ n) × (zero ≡ ltb (firstZero (units 
 
 abbrev μ-loop : tie.MeasureT-loop
 μ-loop s n zero₀ i₀ zero i = n - i
-
--- unit i, as the code reads it
-unit-of : (s : List ℕ) (i : ℕ) → i < length s / 2 → getD (units s) i 0 ≡ le 2 (getD s (2 * i) 0 ∷ getD s (2 * i + 1) 0 ∷ []) 0
-unfolding le
-unit-of s i h = simp add-one (omega (arith, getD-units s i h))
 
 loop-again : tie.Need-loop-again Inv-loop μ-loop
 loop-again c =

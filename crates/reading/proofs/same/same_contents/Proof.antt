@@ -15,13 +15,13 @@ returns c =
     refuted _ (c .before .same .ensures) (c .if1 .taken)
     (the tie.After-label-at (search) .label-at .ensures ∙ e .label ∙ sym (the tie.After-label-at2 (search) .label-at2 .ensures)))
 
-name : (c : tie.After-name-of)
-    → now (c .name-of .result) ≡ drop 4 (partOf (now (the tie.Start (search) .args .a)) (the tie.Start (search) .args .g .parts .«provider_info»))
-name c = c .name-of .ensures ∙ ap (drop 4) (the tie.After-part-of (search) .part-of .ensures)
+name : (c : tie.After-provider-name)
+    → now (c .provider-name .result) ≡ drop 4 (partOf (now (the tie.Start (search) .args .a)) (the tie.Start (search) .args .g .parts .«provider_info»))
+name c = c .provider-name .ensures ∙ ap (drop 4) (the tie.After-part-of (search) .part-of .ensures)
 
-name2 : (c : tie.After-name-of2)
-    → now (c .name-of2 .result) ≡ drop 4 (partOf (now (the tie.Start (search) .args .b)) (the tie.Start (search) .args .h .parts .«provider_info»))
-name2 c = c .name-of2 .ensures ∙ ap (drop 4) (the tie.After-part-of2 (search) .part-of2 .ensures)
+name2 : (c : tie.After-provider-name2)
+    → now (c .provider-name2 .result) ≡ drop 4 (partOf (now (the tie.Start (search) .args .b)) (the tie.Start (search) .args .h .parts .«provider_info»))
+name2 c = c .provider-name2 .ensures ∙ ap (drop 4) (the tie.After-part-of2 (search) .part-of2 .ensures)
 
 returns-2 : tie.Need-returns-2
 returns-2 c =

@@ -4,8 +4,8 @@ use lib.ListN.{drop-of-length-le}
 use denote.Ref.{now}
 use Rattle.octets.proofs.Laws.Part.{rest-drop}
 use borrow.Author.Needs.{needs}
-use Rattle.reading.proofs.same.name_of.Statement.{statement}
-use Rattle.reading.proofs.same.name_of.Tie as tie
+use Rattle.rules.proofs.security.provider_name.Statement.{statement}
+use Rattle.rules.proofs.security.provider_name.Tie as tie
 
 slice-aggregate-result : tie.Need-slice-aggregate-result
 slice-aggregate-result c = search needs
@@ -25,8 +25,8 @@ part-result-end c = search needs
 returns-2 : tie.Need-returns-2
 returns-2 c = rest-drop (now (c .before .before .args .info)) 4
 
-pub name-of-spec : {M : Type 1} → statement M
-name-of-spec =
+pub provider-name-spec : {M : Type 1} → statement M
+provider-name-spec =
     tie.close
     (tie.spec
     slice-aggregate-result

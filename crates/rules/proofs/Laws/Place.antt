@@ -1,0 +1,79 @@
+-- Places: of a 7 by its cause, and that no place of a unit is above the limit.
+use Prim.Native.Nat.{ℕ, zero, suc, _+_, _≤_, _<_, min}
+use mathlib.Core.Path.{_≡_, refl, sym, ap, _∙_}
+use mathlib.Core.Bool.{Bool, true, false, cond}
+use mathlib.Core.List.{List}
+use native.Mathlib.Nat.{add-zero}
+use native.Mathlib.Omega.{arith}
+use borrow.Author.Tests.{eq-eqb, eqb-true, lt-ltb, ltb-false, ne-eqb}
+use lib.Dec.{eqb, ltb}
+use lib.ListN.{length}
+use Rattle.rules.specs.Place.{namePlace, propertiesPlace, propertiesRefusal, securityPlace, securityRefusal}
+use Rattle.rules.specs.Reading.{propertiesNumber, securityNumber}
+use Rattle.rules.specs.Refusal.{firstOf, limit, refusal}
+use Rattle.rules.specs.Properties.{readProperties}
+use Rattle.rules.specs.Security.{providerAt, readSecurity, securityFields, securityLength, securitySteps}
+use Rattle.rules.proofs.Laws.Accepted.{first-next, passed}
+use Rattle.rules.specs.declared.security.SecurityFields.{SecurityFields}
+
+module _ (f : SecurityFields) (at : ℕ) (info : List ℕ) (n : ℕ) (seven : n ≡ 7) where
+  -- S11
+  pub by-text : securitySteps f ≡ 0 → securityPlace n f at info ≡ namePlace at info
+  unfolding securityPlace
+  by-text e = rw (seven, eq-eqb (securitySteps f) 0 e)
+
+  -- S7
+  pub by-size : ¬ (securitySteps f ≡ 0) → securityPlace n f at info ≡ 0
+  unfolding securityPlace
+  by-size e = rw (seven, ne-eqb (securitySteps f) 0 e)
+
+-- where S2 to S7 passed, a 7 comes after S8
+pub small-header : (f : SecurityFields) (rest : ℕ) → firstOf (securitySteps f) (cond (ltb limit (securityLength f)) 8 rest) ≡ 7
+    → securitySteps f ≡ 0 → securityLength f ≤ limit
+small-header f rest e z =
+    ltb-false limit (securityLength f)
+    (passed (ltb limit (securityLength f)) 8 (λ q. omega arith) (sym (first-next (securitySteps f) _ z) ∙ e) .0)
+
+-- so the provider info begins no further than the limit, and the code's sum is the place
+pub unclamped : (n : ℕ) (f : SecurityFields) (info : List ℕ) → (n ≡ 7 → securitySteps f ≡ 0 → securityLength f ≤ limit)
+    → refusal n (securityPlace n f (min (limit + 1) (providerAt f)) info) ≡ securityRefusal n f info
+unfolding securityRefusal securityPlace securityLength
+unclamped n f info small = ap (refusal n) (go (eqb n 7) (eqb (securitySteps f) 0) refl refl)
+  where
+    go : (b z : Bool) → eqb n 7 ≡ b → eqb (securitySteps f) 0 ≡ z
+        → securityPlace n f (min (limit + 1) (providerAt f)) info ≡ securityPlace n f (providerAt f) info
+    go true true e z =
+        ap (λ (at : ℕ). securityPlace n f at info) (omega (arith, small (eqb-true n 7 e) (eqb-true (securitySteps f) 0 z)))
+    go true false e z = rw (e, z)
+    go false z e _ = rw e
+
+-- of a header that passed, and of one whose fixed bytes are not there: its start
+pub at-start : (n p : ℕ) (label : List ℕ) → n < 2 → propertiesRefusal n p label ≡ refusal n p
+unfolding propertiesRefusal propertiesPlace
+at-start zero p label l = rw (add-zero p)
+at-start (suc zero) p label l = rw (add-zero p)
+at-start (suc (suc n)) p label l = absurd (omega arith)
+
+pub security-at-start : (n : ℕ) (f : SecurityFields) (info : List ℕ) → n ≡ 1 → securityRefusal n f info ≡ refusal n 0
+unfolding securityRefusal securityPlace
+security-at-start n f info e = rw e
+
+-- a number by S1 to S11 says that a SecurityHeader stands first
+pub security-first : (first : Bool) (s : List ℕ) → ¬ (securityNumber first s ≡ 0) → securityNumber first s ≡ securityNumber true s
+unfolding securityNumber
+security-first true s some = refl
+security-first false s some = absurd (some refl)
+
+module _ (s : List ℕ) where
+  pub security-small : securityNumber true s ≡ 7 → let f = securityFields s in securitySteps f ≡ 0 → securityLength f ≤ limit
+  unfolding securityNumber readSecurity
+  security-small e = small-header (securityFields s) _ (passed (ltb (length s) 16) 1 (λ q. omega arith) e .1)
+
+  -- an input that is shorter than the fixed bytes is refused with 1
+  pub security-short : length s < 16 → securityNumber true s ≡ 1
+  unfolding securityNumber readSecurity
+  security-short l = rw (lt-ltb (length s) 16 l)
+
+  pub properties-short : (p : ℕ) → length s < p + 56 → propertiesNumber s p ≡ 1
+  unfolding propertiesNumber readProperties
+  properties-short p l = rw (lt-ltb (length s) (p + 56) l)

@@ -1,0 +1,40 @@
+-- C-17, "Say which byte": the place of a refusal is "the first byte of the field that failed", in the input.
+use Prim.Native.Nat.{ℕ, _+_}
+use mathlib.Core.Bool.{cond}
+use mathlib.Core.List.{List}
+use lib.ListN.{drop}
+use lib.Dec.{eqb}
+use Rattle.octets.specs.Text.{breakAt}
+use Rattle.rules.specs.Refusal.{refusal}
+use Rattle.rules.specs.Security.{DP, providerAt, securitySteps}
+use Rattle.rules.specs.declared.refusal.Refusal.{Refusal}
+use Rattle.rules.specs.declared.security.SecurityFields.{SecurityFields}
+
+-- "the text part of 7 .. the first unit that breaks .. the name rule", behind the 4-byte type of provider info that begins at an offset
+unfoldable pub namePlace : ℕ → List ℕ → ℕ
+namePlace at info = at + (4 + breakAt (drop 4 info))
+
+-- of a refusal by S1 to S11 with number n; the provider info begins at an offset
+unfoldable pub securityPlace : ℕ → SecurityFields → ℕ → List ℕ → ℕ
+securityPlace n f at info =
+    cond (eqb n 4) (cond (eqb (DP f) 0) 0 2)  -- "for 4 Flags if DP is clear, else SenderIdSize"
+    (cond (eqb n 5) 8  -- SenderCertSize
+    (cond (eqb n 6) 2  -- "for 6 SenderIdSize"
+    (cond (eqb n 7) (cond (eqb (securitySteps f) 0) (namePlace at info) 0)  -- S11, or S7: "size 7 the header's start"
+    0)))  -- "for 2 and 3 it is Flags"; "for 1, 8 .. the header's start"
+
+-- of a refusal by P1 to P7 with number n, counted from the header's start
+unfoldable pub propertiesPlace : ℕ → List ℕ → ℕ
+propertiesPlace n label =
+    cond (eqb n 9) 1  -- LabelLength
+    (cond (eqb n 10) 2  -- MessageClass
+    (cond (eqb n 11) 36  -- "For 11 it is AllocationBodySize"
+    (cond (eqb n 12) (56 + breakAt label)  -- "For 12 .. the first unit that breaks the label rule"
+    0)))  -- "for 1, 8 .. the header's start"
+
+-- the refusal by number n of a SecurityHeader, and of a MessagePropertiesHeader at p
+unfoldable pub securityRefusal : ℕ → SecurityFields → List ℕ → Refusal
+securityRefusal n f info = refusal n (securityPlace n f (providerAt f) info)
+
+unfoldable pub propertiesRefusal : ℕ → ℕ → List ℕ → Refusal
+propertiesRefusal n p label = refusal n (p + propertiesPlace n label)

@@ -1,6 +1,6 @@
 // The label for display.
 use crate::properties::fields_at;
-use crate::section::judge;
+use crate::section::base_judge;
 use crate::view::part_of;
 use octets::count::Bytes;
 use rules::layout::part;
@@ -14,7 +14,7 @@ ghost use Rattle.reading.specs.Label.{labelPart};
 pub fn label_part(s: &[u8], security_first: bool) -> Part
     ensures { λ r. ⌜ r ≡ labelPart (summarize «security_first» (now (s .entry))) ⌝ }
 {
-    let judged = judge(s, security_first);
+    let judged = base_judge(s, security_first);
     if judged.number != refusal::PASSED {
         return part(Bytes(0), Bytes(0));
     }

@@ -1,8 +1,8 @@
 // Whether two inputs have the same summary: what a caller needs to use demand 3.
 use crate::properties::fields_at;
 use crate::properties::label_at;
+use crate::section::base_judge;
 use crate::section::header_at;
-use crate::section::judge;
 use crate::view::part_of;
 use octets::part::same;
 use rules::properties::PropertiesFields;
@@ -151,10 +151,10 @@ pub fn same_summary(a: &[u8], b: &[u8], security_first: bool) -> bool
     ensures { λ r. ⌜ (r ≡ true → SameSummary «security_first» (now (a .entry)) (now (b .entry)))
         × (SameSummary «security_first» (now (a .entry)) (now (b .entry)) → r ≡ true) ⌝ }
 {
-    if judge(a, security_first).number != refusal::PASSED {
+    if base_judge(a, security_first).number != refusal::PASSED {
         return false;
     }
-    if judge(b, security_first).number != refusal::PASSED {
+    if base_judge(b, security_first).number != refusal::PASSED {
         return false;
     }
     same_accepted(a, b, security_first)

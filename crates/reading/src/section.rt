@@ -28,7 +28,7 @@ ghost use Prim.Native.Nat.{_+_, _≤_};
 ghost use lib.ListN.{drop, length};
 ghost use Rattle.octets.specs.Number.{le};
 ghost use Rattle.rules.specs.Properties.{propertiesFields, propertiesParts};
-ghost use Rattle.rules.specs.Reading.{headerAt, judge, read, securityNumber, startAt, summarize, summaryAt};
+ghost use Rattle.rules.specs.Reading.{baseJudge, headerAt, judge, read, securityNumber, startAt, summarize, summaryAt};
 ghost use Rattle.rules.specs.Refusal.{limit};
 ghost use Rattle.rules.specs.Summary.{sectionOf, summaryOf, verdictsOf};
 ghost use Rattle.reading.specs.Case.{readingCase};
@@ -65,22 +65,36 @@ fn start_at(s: &[u8], security_first: bool) -> Bytes
     Bytes(0)
 }
 
-// The refusal of the section at the input's first byte; its number is 0 where no step fails, and its place is then
-// where the MessagePropertiesHeader begins. The caller says whether a SecurityHeader stands first. (A small answer: what
-// was read is made from the bytes once they have passed.)
-pub fn judge(s: &[u8], security_first: bool) -> Refusal
-    ensures { λ r. ⌜ r ≡ judge «security_first» (now (s .entry)) ⌝ }
+// The number of the first step that fails in the section at the input's first byte, 0 where none does, and for its place
+// the header that the step looks at. The caller says whether a SecurityHeader stands first. (A small answer: what was
+// read is made from the bytes once they have passed, and the field that failed is looked for where they have not.)
+pub fn base_judge(s: &[u8], security_first: bool) -> Refusal
+    ensures { λ r. ⌜ r ≡ baseJudge «security_first» (now (s .entry)) ⌝ }
 {
     let number = header_number(s, security_first);
     if number != refusal::PASSED {
-        return refused_security(s, number);
+        return Refusal {
+            number,
+            place: Bytes(0),
+        };
     }
     let at = start_at(s, security_first);
-    let number = properties_number(s, at);
-    if number != refusal::PASSED {
-        return refused_properties(s, at, number);
+    Refusal {
+        number: properties_number(s, at),
+        place: at,
     }
-    Refusal { number, place: at }
+}
+
+// The refusal, its place that of the field that failed.
+pub fn judge(s: &[u8], security_first: bool) -> Refusal
+    ensures { λ r. ⌜ r ≡ judge «security_first» (now (s .entry)) ⌝ }
+{
+    let judged = base_judge(s, security_first);
+    let is_security = security_first & (judged.place.0 == 0);
+    if is_security {
+        return refused_security(s, judged.number);
+    }
+    refused_properties(s, judged.place, judged.number)
 }
 
 pub(crate) fn header_at(s: &[u8], security_first: bool) -> SecurityHeader
@@ -159,9 +173,8 @@ fn section_of(
 pub fn summarize(s: &[u8], security_first: bool) -> Summarized
     ensures { λ r. ⌜ r ≡ summarize «security_first» (now (s .entry)) ⌝ }
 {
-    let refused = judge(s, security_first);
-    if refused.number != refusal::PASSED {
-        return Summarized::Refused(refused);
+    if base_judge(s, security_first).number != refusal::PASSED {
+        return Summarized::Refused(judge(s, security_first));
     }
     let header = header_at(s, security_first);
     let section = section_of(s, security_first, header, section_verdicts(s, header));
@@ -181,9 +194,8 @@ pub enum ReadingCase {
 pub fn reading_case(s: &[u8], security_first: bool) -> ReadingCase
     ensures { λ r. ⌜ r ≡ readingCase «security_first» (read «security_first» (now (s .entry))) ⌝ }
 {
-    let refused = judge(s, security_first);
-    if refused.number != refusal::PASSED {
-        return ReadingCase::Refused(refused);
+    if base_judge(s, security_first).number != refusal::PASSED {
+        return ReadingCase::Refused(judge(s, security_first));
     }
     if security_first {
         let header = security_header(s);

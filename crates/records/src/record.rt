@@ -5,6 +5,7 @@ use crate::head::next_head;
 use octets::count::Bytes;
 use octets::count::Units;
 use reading::properties::properties_fields;
+use reading::section::base_judge;
 use reading::section::judge;
 use reading::section::properties_start;
 use rules::properties::section_end;
@@ -46,9 +47,8 @@ pub enum Next {
 fn answer_of(section: &[u8], security_first: bool) -> Answer
     ensures { λ r. ⌜ r ≡ answerOf (summarize «security_first» (now (section .entry))) ⌝ }
 {
-    let refused = judge(section, security_first);
-    if refused.number != refusal::PASSED {
-        return Answer::Refused(refused);
+    if base_judge(section, security_first).number != refusal::PASSED {
+        return Answer::Refused(judge(section, security_first));
     }
     let at = properties_start(section, security_first);
     let fields = properties_fields(section, at);

@@ -32,9 +32,17 @@ propertiesPlace n label =
     (cond (eqb n 12) (56 + breakAt label)  -- "For 12 .. the first unit that breaks the label rule"
     0)))  -- "for 1, 8 .. the header's start"
 
--- the refusal by number n of a SecurityHeader, and of a MessagePropertiesHeader at p
+-- the refusal of a SecurityHeader by number n, and of a MessagePropertiesHeader at p
 unfoldable pub securityRefusal : ℕ → SecurityFields → List ℕ → Refusal
 securityRefusal n f info = refusal n (securityPlace n f (providerAt f) info)
 
 unfoldable pub propertiesRefusal : ℕ → ℕ → List ℕ → Refusal
 propertiesRefusal n p label = refusal n (p + propertiesPlace n label)
+
+-- "The first step that fails gives the refusal": the SecurityHeader's number n, or where that is 0 the MessagePropertiesHeader's m
+unfoldable pub sectionRefusal : ℕ → SecurityFields → List ℕ → ℕ → ℕ → List ℕ → Refusal
+sectionRefusal n f info m p label = cond (eqb n 0) (propertiesRefusal m p label) (securityRefusal n f info)
+
+-- 01's refusal, before C-17: "Its place is the offset of the header being read."
+unfoldable pub headerRefusal : ℕ → ℕ → ℕ → Refusal
+headerRefusal n m p = cond (eqb n 0) (refusal m p) (refusal n 0)

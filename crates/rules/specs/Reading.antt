@@ -6,7 +6,7 @@ use mathlib.Core.List.{List}
 use lib.ListN.{length, getD, drop}
 use lib.Dec.{eqb}
 use Rattle.octets.specs.Number.{le}
-use Rattle.rules.specs.Place.{propertiesRefusal, securityRefusal}
+use Rattle.rules.specs.Place.{headerRefusal, sectionRefusal}
 use Rattle.rules.specs.Properties.{propertiesFields, propertiesParts, readProperties}
 use Rattle.rules.specs.Security.{ST, readSecurity, securityFields, securityParts}
 use Rattle.rules.specs.Summary.{partOf, noSecurity, summaryOf, labelOf, providerNameOf, sectionOf}
@@ -68,8 +68,11 @@ propertiesNumber s p = readProperties (length s) p (propertiesFields (drop p s))
 unfoldable pub judge : Bool → List ℕ → Refusal
 judge first s =
     let p = startAt first s in
-    cond (eqb (securityNumber first s) 0) (propertiesRefusal (propertiesNumber s p) p (labelAt s p))
-    (securityRefusal (securityNumber first s) (securityFields s) (providerInfoAt s))
+    sectionRefusal (securityNumber first s) (securityFields s) (providerInfoAt s) (propertiesNumber s p) p (labelAt s p)
+
+-- 01's, with the header for its place
+unfoldable pub baseJudge : Bool → List ℕ → Refusal
+baseJudge first s = headerRefusal (securityNumber first s) (propertiesNumber s (startAt first s)) (startAt first s)
 
 -- the summary, or the refusal
 unfoldable pub summarize : Bool → List ℕ → Summarized

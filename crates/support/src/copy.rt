@@ -4,6 +4,7 @@ use crate::header::copy_security;
 use crate::header::provider_start;
 use octets::count::Bytes;
 use reading::properties::properties_fields;
+use reading::section::base_judge;
 use reading::section::judge;
 use reading::section::properties_start;
 use reading::security::security_fields;
@@ -63,9 +64,8 @@ pub fn support_copy(s: &[u8], security_first: bool, out: &mut [u8]) -> Output
     ensures { λ r. ⌜ r ≡ supportAnswer «security_first» (now (s .entry)) (now (out .entry)) ⌝ }
     ensures { λ _. ⌜ now (out .exit) ≡ supportBytes «security_first» (now (s .entry)) (now (out .entry)) ⌝ }
 {
-    let refused = judge(s, security_first);
-    if refused.number != refusal::PASSED {
-        return Output::Refused(refused);
+    if base_judge(s, security_first).number != refusal::PASSED {
+        return Output::Refused(judge(s, security_first));
     }
     let at = properties_start(s, security_first);
     let properties = properties_fields(s, at);

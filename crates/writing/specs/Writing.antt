@@ -6,7 +6,7 @@ use lib.ListN.{length, replicate}
 use lib.Dec.{eqb, ltb}
 use Rattle.octets.specs.Padding.{padding}
 use Rattle.rules.specs.Output.{writerAnswer, writerOutput}
-use Rattle.rules.specs.Place.{propertiesRefusal, securityRefusal}
+use Rattle.rules.specs.Place.{headerRefusal, sectionRefusal}
 use Rattle.rules.specs.Properties.{labelContents, propertiesLength, propertiesRow, propertiesSteps}
 use Rattle.rules.specs.Refusal.{bytes, firstOf, limit}
 use Rattle.rules.specs.Row.{rowBytes}
@@ -50,12 +50,20 @@ endNumber p f label =
 unfoldable pub judgeGiven : Bool → SecurityFields → List ℕ → List ℕ → PropertiesFields → List ℕ → Refusal
 judgeGiven first f identity info h label =
     let p = startOf first f in
-    cond (eqb (headerNumber first f identity info) 0) (propertiesRefusal (endNumber p h label) p label)
-    (securityRefusal (headerNumber first f identity info) f info)
+    sectionRefusal (headerNumber first f identity info) f info (endNumber p h label) p label
+
+-- 01's, with the header for its place
+unfoldable pub baseJudgeGiven : Bool → SecurityFields → List ℕ → List ℕ → PropertiesFields → List ℕ → Refusal
+baseJudgeGiven first f identity info h label =
+    headerRefusal (headerNumber first f identity info) (endNumber (startOf first f) h label) (startOf first f)
 
 abbrev pub writeRefusal : Given → Refusal
 writeRefusal g =
     judgeGiven (g .values .«security_first») (securityGiven g) (g .senderId) (g .providerInfo) (propertiesGiven g) (g .label)
+
+abbrev pub baseWriteRefusal : Given → Refusal
+baseWriteRefusal g =
+    baseJudgeGiven (g .values .«security_first») (securityGiven g) (g .senderId) (g .providerInfo) (propertiesGiven g) (g .label)
 
 -- the length that the layouts of the headers give
 abbrev pub layoutLength : Given → ℕ

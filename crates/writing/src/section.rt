@@ -20,10 +20,10 @@ ghost use mathlib.Core.Path.{_≡_};
 ghost use Prim.Native.Nat.{_+_, min};
 ghost use Rattle.octets.specs.Over.{over};
 ghost use Rattle.rules.specs.Refusal.{limit, refusal};
-ghost use Rattle.writing.specs.Given.{held, lent};
-ghost use Rattle.writing.specs.Laid.{SectionLaid};
-ghost use Rattle.writing.specs.Writing.{headerNumber, sectionBytes, startOf};
-ghost use Rattle.writing.specs.Writing.{writeAnswer, writeBytes, writeRefusal};
+ghost use Rattle.writing.specs.Given.{held, lent, securityFrom};
+ghost use Rattle.writing.specs.Laid.{SectionLaid, refusalAt};
+ghost use Rattle.writing.specs.Writing.{baseWriteRefusal, headerNumber, sectionBytes, startOf};
+ghost use Rattle.writing.specs.Writing.{writeAnswer, writeBytes};
 
 // 28 and the steps on the SecurityHeader, where one stands first.
 fn header_number(security_first: bool, f: SecurityFields, identity: &[u8], info: &[u8]) -> u32
@@ -45,7 +45,7 @@ fn properties_start(security_first: bool, f: SecurityFields) -> Bytes
     Bytes(0)
 }
 
-// The refusal but for 13; its number is 0 where no step fails.
+// The number of the first step but for 13 that fails, 0 where none does, and for its place the header that it looks at.
 fn judge(
     values: SectionValues,
     sender_id: &[u8],
@@ -57,7 +57,7 @@ fn judge(
     extension: &[u8],
     body: &[u8],
 ) -> Refusal
-    ensures { λ r. ⌜ r ≡ writeRefusal (lent values «sender_id» «encryption_key» signature
+    ensures { λ r. ⌜ r ≡ baseWriteRefusal (lent values «sender_id» «encryption_key» signature
         «sender_cert» «provider_info» label extension body) ⌝ }
 {
     let security = security_given(
@@ -70,14 +70,49 @@ fn judge(
     );
     let number = header_number(values.security_first, security, sender_id, provider_info);
     if number != refusal::PASSED {
-        return security_refusal(number, security, provider_info);
+        return Refusal {
+            number,
+            place: Bytes(0),
+        };
     }
     let at = properties_start(values.security_first, security);
-    let number = properties_number(values, label, extension, body, at);
-    if number != refusal::PASSED {
-        return properties_refusal(number, at, label);
+    Refusal {
+        number: properties_number(values, label, extension, body, at),
+        place: at,
     }
-    Refusal { number, place: at }
+}
+
+// The refusal by a number of the header at `at`, its place that of the field that failed. (The fields are made anew, so
+// that no struct of them is held for this alone.)
+fn refused(
+    values: SectionValues,
+    sender_id: &[u8],
+    encryption_key: &[u8],
+    signature: &[u8],
+    sender_cert: &[u8],
+    provider_info: &[u8],
+    label: &[u8],
+    number: u32,
+    at: Bytes,
+) -> Refusal
+    ensures { λ r. ⌜ r ≡ refusalAt (values .«security_first»)
+        (securityFrom (values .«security_flags») (now («sender_id» .entry)) (now («encryption_key» .entry))
+        (now (signature .entry)) (now («sender_cert» .entry)) (now («provider_info» .entry)))
+        (now («provider_info» .entry)) (now (label .entry)) number (at .0) ⌝ }
+{
+    let is_security = values.security_first & (at.0 == 0);
+    if is_security {
+        let security = security_given(
+            values.security_flags,
+            sender_id,
+            encryption_key,
+            signature,
+            sender_cert,
+            provider_info,
+        );
+        return security_refusal(number, security, provider_info);
+    }
+    properties_refusal(number, at, label)
 }
 
 // The section, where every step has passed and the output has room. Its MessagePropertiesHeader begins at `start`.
@@ -145,7 +180,7 @@ fn write_judged(
     start: Bytes,
     out: &mut [u8],
 ) -> Output
-    requires { ⌜ writeRefusal (held values «sender_id» «encryption_key» signature
+    requires { ⌜ baseWriteRefusal (held values «sender_id» «encryption_key» signature
         «sender_cert» «provider_info» label extension body) ≡ refusal 0 (start .0) ⌝ }
     ensures { λ r. ⌜ r ≡ writeAnswer (lent values «sender_id» «encryption_key» signature
         «sender_cert» «provider_info» label extension body) (now (out .entry)) ⌝ }
@@ -203,7 +238,17 @@ pub fn write_section(
         body,
     );
     if judged.number != refusal::PASSED {
-        return Output::Refused(judged);
+        return Output::Refused(refused(
+            values,
+            sender_id,
+            encryption_key,
+            signature,
+            sender_cert,
+            provider_info,
+            label,
+            judged.number,
+            judged.place,
+        ));
     }
     write_judged(
         values,

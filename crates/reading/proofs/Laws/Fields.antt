@@ -13,14 +13,14 @@ use Rattle.octets.specs.Padding.{padded}
 use Rattle.octets.specs.Part.{within}
 use Rattle.octets.proofs.Laws.Number.{le-cong, le-out}
 use Rattle.octets.proofs.Laws.Part.{getD-within, whole-in, within-none}
+use Rattle.rules.specs.Place.{headerRefusal}
 use Rattle.rules.specs.Properties.{propertiesFields}
-use Rattle.rules.specs.Reading.{fieldsAt, headerAt, judge, labelAt, propertiesNumber, securityHeader, securityNumber, startAt, summaryAt}
+use Rattle.rules.specs.Reading.{baseJudge, fieldsAt, headerAt, judge, securityHeader, securityNumber, startAt, summaryAt}
 use Rattle.rules.specs.Refusal.{limit}
 use Rattle.rules.specs.Security.{DE, ST, certAt, keyAt, providerAt, providerSize, securityFields, securityLength, securityParts, signatureAt}
 use Rattle.rules.specs.Summary.{noSecurity, summaryOf}
 use Rattle.rules.specs.declared.security.SecurityHeader.{SecurityHeader}
-use Rattle.rules.proofs.Laws.Accepted.{HeaderPassed, SectionPassed, header-fits, identity-le, judge-passed, properties-number, security-number}
-use Rattle.rules.proofs.Laws.Place.{at-start}
+use Rattle.rules.proofs.Laws.Accepted.{HeaderPassed, SectionPassed, header-fits, identity-le, judge-passed, security-number}
 use Rattle.reading.specs.Fields.{propertiesRead, securityRead, startRead}
 
 pub security-read : (s : List ℕ) → 16 ≤ length s → securityRead s ≡ securityFields s
@@ -47,20 +47,19 @@ start-passed false s e = record { read = refl; small = omega arith }
 
 -- all of it, once every step has passed
 pub record Passed (first : Bool) (s : List ℕ) : Type 0 where
-  pub place : judge first s .place .0 ≡ startAt first s
+  pub place : baseJudge first s .place .0 ≡ startAt first s
   pub start : Start first s
   pub fixed : startAt first s + 56 ≤ length s
   pub fields : propertiesRead s (startAt first s) ≡ fieldsAt first s
 
 pub accepted : (first : Bool) (s : List ℕ) → judge first s .number ≡ 0 → Passed first s
-unfolding judge fieldsAt summaryAt summaryOf startAt
+unfolding baseJudge headerRefusal fieldsAt summaryAt summaryOf startAt
 accepted first s e =
     let a = judge-passed first s .0 e in
     let p = headerAt first s .parts .length .0 in
     let none = security-number first s .1 (a .security) in
-    let last : propertiesNumber s p < 2 = omega (arith, properties-number first s .1 (a .properties)) in
     record {
-      place = rw (eq-eqb (securityNumber first s) 0 none, at-start (propertiesNumber s p) p (labelAt s p) last);
+      place = rw (eq-eqb (securityNumber first s) 0 none);
       start = start-passed first s none;
       fixed = a .properties .fixed;
       fields = properties-read s p (a .properties .fixed);

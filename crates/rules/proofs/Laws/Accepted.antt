@@ -11,10 +11,10 @@ use lib.Dec.{eqb, ltb, leb}
 use Rattle.rules.specs.Listed.{listed, classes}
 use Rattle.rules.specs.Properties.{labelContents, labelText, propertiesFields, propertiesLength, propertiesParts}
 use Rattle.rules.specs.Properties.{propertiesSteps, readProperties}
-use Rattle.rules.specs.Place.{propertiesRefusal, securityRefusal}
-use Rattle.rules.specs.Reading.{fieldsAt, headerAt, judge, labelAt, propertiesNumber, providerInfoAt, securityHeader, securityNumber}
+use Rattle.rules.specs.Place.{headerRefusal, propertiesRefusal, sectionRefusal, securityRefusal}
+use Rattle.rules.specs.Reading.{baseJudge, fieldsAt, headerAt, judge, propertiesNumber, securityHeader, securityNumber}
 use Rattle.rules.specs.Reading.{startAt, summarize, summaryAt}
-use Rattle.rules.specs.Refusal.{firstOf, limit}
+use Rattle.rules.specs.Refusal.{firstOf, limit, refusal}
 use Rattle.rules.specs.Security.{ST, AU, AS, DE, DP, allEmpty, identityHead, identitySize, providerSize, providerText}
 use Rattle.rules.specs.Security.{readSecurity, securityContents, securityFields, securityLength, securityParts, securitySteps}
 use Rattle.rules.specs.Summary.{partOf, noSecurity, summaryOf, labelOf, propertiesAt}
@@ -253,23 +253,42 @@ properties-number first s = (
       rw (le-ltb (length s) (p + 56) (a .fixed), first-next (propertiesSteps f) _ (a .steps), p5, p6, a .label),
 )
 
-pub judge-passed : (first : Bool) (s : List ℕ) → (judge first s .number ≡ 0) ↔ SectionPassed first s (summaryAt first s)
-unfolding judge propertiesRefusal securityRefusal summaryAt summaryOf
-judge-passed first s = (
-  λ e.
-      let both = go (securityNumber first s) (eqb (securityNumber first s) 0) refl e in
-      record { security = security-number first s .0 (both .0); properties = properties-number first s .0 (both .1) },
-  λ a.
-      rw (eq-eqb (securityNumber first s) 0 (security-number first s .1 (a .security)))
-      (properties-number first s .1 (a .properties)),
-)
+-- the number of a refusal, with either place
+pub section-number : (n : ℕ) (f : SecurityFields) (info : List ℕ) (m p : ℕ) (label : List ℕ)
+    → sectionRefusal n f info m p label .number ≡ headerRefusal n m p .number
+unfolding sectionRefusal headerRefusal propertiesRefusal securityRefusal
+section-number n f info m p label = go (eqb n 0)
   where
-    go : (n : ℕ) (b : Bool) → eqb n 0 ≡ b
-        → let p = startAt first s in
-        cond b (propertiesRefusal (propertiesNumber s p) p (labelAt s p)) (securityRefusal n (securityFields s) (providerInfoAt s)) .number ≡ 0
-        → (n ≡ 0) × (propertiesNumber s p ≡ 0)
-    go n true f e = (eqb-true n 0 f, e)
-    go n false f e = absurd (eqb-false n 0 f e)
+    go : (b : Bool) → cond b (propertiesRefusal m p label) (securityRefusal n f info) .number ≡ cond b (refusal m p) (refusal n 0) .number
+    go true = refl
+    go false = refl
+
+-- is 0 where both are
+pub number-passed : (n m p : ℕ) → (headerRefusal n m p .number ≡ 0) ↔ ((n ≡ 0) × (m ≡ 0))
+unfolding headerRefusal
+number-passed n m p = (λ e. go (eqb n 0) refl e, λ a. rw (eq-eqb n 0 (a .0)) (a .1))
+  where
+    go : (b : Bool) → eqb n 0 ≡ b → cond b (refusal m p) (refusal n 0) .number ≡ 0 → (n ≡ 0) × (m ≡ 0)
+    go true f e = (eqb-true n 0 f, e)
+    go false f e = absurd (eqb-false n 0 f e)
+
+-- the same step fails as before
+pub judge-number : (first : Bool) (s : List ℕ) → judge first s .number ≡ baseJudge first s .number
+unfolding judge baseJudge
+judge-number first s = section-number (securityNumber first s) _ _ _ _ _
+
+pub judge-passed : (first : Bool) (s : List ℕ) → (judge first s .number ≡ 0) ↔ SectionPassed first s (summaryAt first s)
+unfolding baseJudge summaryAt summaryOf
+judge-passed first s =
+    let p = startAt first s in
+    let both = number-passed (securityNumber first s) (propertiesNumber s p) p in (
+      λ e.
+          let a = both .0 (sym (judge-number first s) ∙ e) in
+          record { security = security-number first s .0 (a .0); properties = properties-number first s .0 (a .1) },
+      λ a.
+          judge-number first s
+          ∙ both .1 (security-number first s .1 (a .security), properties-number first s .1 (a .properties)),
+    )
 
 -- an accepted input's summary is made from its bytes alone
 pub accepted-at : (first : Bool) (s : List ℕ) (m : Summary) → summarize first s ≡ Accepted m

@@ -1,19 +1,20 @@
 -- Places: of a 7 by its cause, and that no place of a unit is above the limit.
 use Prim.Native.Nat.{ℕ, zero, suc, _+_, _≤_, _<_, min}
 use mathlib.Core.Path.{_≡_, refl, sym, ap, _∙_}
-use mathlib.Core.Bool.{Bool, true, false, cond}
+use mathlib.Core.Bool.{Bool, true, false, _&&_, cond, and-eq-true-iff, and-true}
 use mathlib.Core.List.{List}
 use native.Mathlib.Nat.{add-zero}
 use native.Mathlib.Omega.{arith}
-use borrow.Author.Tests.{eq-eqb, eqb-true, lt-ltb, ltb-false, ne-eqb}
+use borrow.Author.Tests.{eq-eqb, eqb-false, eqb-true, lt-ltb, ltb-false, ne-eqb}
 use lib.Dec.{eqb, ltb}
 use lib.ListN.{length}
-use Rattle.rules.specs.Place.{namePlace, propertiesPlace, propertiesRefusal, securityPlace, securityRefusal}
+use Rattle.rules.specs.Place.{headerRefusal, namePlace, propertiesPlace, propertiesRefusal, securityPlace, securityRefusal}
 use Rattle.rules.specs.Reading.{propertiesNumber, securityNumber}
 use Rattle.rules.specs.Refusal.{firstOf, limit, refusal}
 use Rattle.rules.specs.Properties.{readProperties}
 use Rattle.rules.specs.Security.{providerAt, readSecurity, securityFields, securityLength, securitySteps}
 use Rattle.rules.proofs.Laws.Accepted.{first-next, passed}
+use Rattle.rules.specs.declared.refusal.Refusal.{Refusal}
 use Rattle.rules.specs.declared.security.SecurityFields.{SecurityFields}
 
 module _ (f : SecurityFields) (at : ℕ) (info : List ℕ) (n : ℕ) (seven : n ≡ 7) where
@@ -58,11 +59,38 @@ pub security-at-start : (n : ℕ) (f : SecurityFields) (info : List ℕ) → n �
 unfolding securityRefusal securityPlace
 security-at-start n f info e = rw e
 
--- a number by S1 to S11 says that a SecurityHeader stands first
-pub security-first : (first : Bool) (s : List ℕ) → ¬ (securityNumber first s ≡ 0) → securityNumber first s ≡ securityNumber true s
-unfolding securityNumber
-security-first true s some = refl
-security-first false s some = absurd (some refl)
+-- which header a refusal is of, by its place, where a SecurityHeader that stands first is not empty and one that does not refuses nothing
+module _ (first : Bool) (n m p : ℕ) (long : first ≡ true → 0 < p) (none : first ≡ false → n ≡ 0) (r : Refusal) (e : r ≡ headerRefusal n m p) where
+  abbrev at : Bool → Refusal
+  at b = cond b (refusal m p) (refusal n 0)
+
+  told : (b : Bool) → eqb n 0 ≡ b → r ≡ at b
+  unfolding headerRefusal
+  told b f = rw (← f) e
+
+  -- of the SecurityHeader: its number is not 0
+  pub in-security : (first && eqb (r .place .0) 0) ≡ true → (first ≡ true) × ¬ (n ≡ 0) × (r .number ≡ n)
+  in-security t = go (eqb n 0) refl
+    where
+      both : (first ≡ true) × (eqb (r .place .0) 0 ≡ true)
+      both = and-eq-true-iff first (eqb (r .place .0) 0) .0 t
+
+      go : (b : Bool) → eqb n 0 ≡ b → (first ≡ true) × ¬ (n ≡ 0) × (r .number ≡ n)
+      go true f =
+          let start : r .place .0 ≡ p = ap (λ (x : Refusal). x .place .0) (told true f) in
+          absurd (omega (arith, long (both .0), start, eqb-true (r .place .0) 0 (both .1)))
+      go false f = (both .0, eqb-false n 0 f, ap (λ (x : Refusal). x .number) (told false f))
+
+  -- of the MessagePropertiesHeader
+  pub in-properties : (first && eqb (r .place .0) 0) ≡ false → (n ≡ 0) × (r .number ≡ m) × (r .place .0 ≡ p)
+  in-properties t = go (eqb n 0) refl
+    where
+      go : (b : Bool) → eqb n 0 ≡ b → (n ≡ 0) × (r .number ≡ m) × (r .place .0 ≡ p)
+      go true f = (eqb-true n 0 f, ap (λ (x : Refusal). x .number) (told true f), ap (λ (x : Refusal). x .place .0) (told true f))
+      go false f =
+          let start : r .place .0 ≡ 0 = ap (λ (x : Refusal). x .place .0) (told false f) in
+          let second : first ≡ false = sym (and-true first) ∙ ap (λ (b : Bool). first && b) (sym (eq-eqb (r .place .0) 0 start)) ∙ t in
+          absurd (eqb-false n 0 f (none second))
 
 module _ (s : List ℕ) where
   pub security-small : securityNumber true s ≡ 7 → let f = securityFields s in securitySteps f ≡ 0 → securityLength f ≤ limit

@@ -1,22 +1,25 @@
 -- What values and parts have passed where no step but 13 refuses them, and that none refuses where they passed.
-use Prim.Native.Nat.{ℕ, suc, _+_, _%_, _≤_, _<_}
-use mathlib.Core.Path.{_≡_, refl, sym}
+use Prim.Native.Nat.{ℕ, suc, _+_, _%_, _≤_, _<_, min}
+use mathlib.Core.Path.{_≡_, refl, sym, ap, _∙_}
 use mathlib.Core.Logic.{_↔_}
-use mathlib.Core.Bool.{Bool, true, false, not, cond}
+use mathlib.Core.Bool.{Bool, true, false, not, _&&_, cond, true≢false}
 use mathlib.Core.List.{List}
 use native.Mathlib.Omega.{arith}
-use borrow.Author.Tests.{eq-eqb, eqb-false, eqb-true, le-ltb, ltb-false, not-false}
+use borrow.Author.Tests.{eq-eqb, eqb-true, le-ltb, ltb-false, ne-eqb, not-false}
 use lib.ListN.{length}
 use lib.Dec.{eqb, ltb}
-use Rattle.rules.specs.Place.{propertiesRefusal, securityRefusal}
+use Rattle.rules.specs.Place.{headerRefusal, propertiesRefusal, sectionRefusal, securityPlace}
 use Rattle.rules.specs.Properties.{labelContents, labelText, propertiesLength, propertiesSteps}
-use Rattle.rules.specs.Refusal.{bytes, limit}
-use Rattle.rules.specs.Security.{identityHead, providerText, securityContents, securityLength, securitySteps}
+use Rattle.rules.specs.Refusal.{bytes, limit, refusal}
+use Rattle.rules.specs.Security.{certAt, identityHead, keyAt, providerAt, providerText, securityContents, securityLength, securitySteps, signatureAt}
+use Rattle.rules.specs.declared.refusal.Refusal.{Refusal}
 use Rattle.rules.specs.declared.security.SecurityFields.{SecurityFields}
-use Rattle.rules.proofs.Laws.Accepted.{first-next, first-passed, passed}
-use Rattle.rules.proofs.Laws.Place.{at-start, small-header}
+use Rattle.rules.proofs.Laws.Accepted.{first-next, first-passed, number-passed, passed, section-number}
+use Rattle.rules.proofs.Laws.Place.{in-properties, in-security, small-header, unclamped}
 use Rattle.writing.specs.Given.{Given, propertiesGiven, securityGiven}
-use Rattle.writing.specs.Writing.{endNumber, headerNumber, judgeGiven, startOf, tooLarge, writeRefusal, writeSecurity}
+use Rattle.writing.specs.Laid.{refusalAt}
+use Rattle.writing.specs.Writing.{baseJudgeGiven, baseWriteRefusal, endNumber, headerNumber, judgeGiven, startOf, tooLarge, writeRefusal}
+use Rattle.writing.specs.Writing.{writeSecurity}
 
 -- what a SecurityHeader that would be written has passed: 28, S2 to S7, S8, S10, S11
 pub record SecurityPlaced (g : Given) : Type 0 where
@@ -114,34 +117,65 @@ start g = startOf (g .values .«security_first») (securityGiven g)
 abbrev number : Given → ℕ
 number g = headerNumber (g .values .«security_first») (securityGiven g) (g .senderId) (g .providerInfo)
 
+-- the same step fails with either place
+pub write-number : (g : Given) → writeRefusal g .number ≡ baseWriteRefusal g .number
+unfolding judgeGiven baseJudgeGiven
+write-number g = section-number (number g) _ _ _ _ _
+
 -- no step but 13 refuses exactly what has passed
 pub section-placed : (g : Given) → (writeRefusal g .number ≡ 0) ↔ SectionPlaced (g .values .«security_first») g
-unfolding judgeGiven propertiesRefusal securityRefusal
-section-placed g = (
-  λ e.
-      let both = go (number g) (eqb (number g) 0) refl e in
-      record {
-        security = header-number (g .values .«security_first») g .0 (both .0);
-        properties = end-number (start g) g .0 (both .1);
-      },
-  λ a.
-      rw (eq-eqb (number g) 0 (header-number (g .values .«security_first») g .1 (a .security)))
-      (end-number (start g) g .1 (a .properties)),
-)
-  where
-    go : (n : ℕ) (b : Bool) → eqb n 0 ≡ b
-        → let m = endNumber (start g) (propertiesGiven g) (g .label) in
-        cond b (propertiesRefusal m (start g) (g .label)) (securityRefusal n (securityGiven g) (g .providerInfo)) .number ≡ 0
-        → (n ≡ 0) × (m ≡ 0)
-    go n true f e = (eqb-true n 0 f, e)
-    go n false f e = absurd (eqb-false n 0 f e)
+unfolding baseJudgeGiven
+section-placed g =
+    let both = number-passed (number g) (endNumber (start g) (propertiesGiven g) (g .label)) (start g) in (
+      λ e.
+          let a = both .0 (sym (write-number g) ∙ e) in
+          record {
+            security = header-number (g .values .«security_first») g .0 (a .0);
+            properties = end-number (start g) g .0 (a .1);
+          },
+      λ a.
+          write-number g
+          ∙ both .1 (header-number (g .values .«security_first») g .1 (a .security), end-number (start g) g .1 (a .properties)),
+    )
 
--- and then its place is where the MessagePropertiesHeader begins
-pub start-placed : (g : Given) → writeRefusal g .number ≡ 0 → writeRefusal g .place ≡ bytes (start g)
-unfolding judgeGiven
+-- and then the header that the last step looked at is the MessagePropertiesHeader
+pub start-placed : (g : Given) → writeRefusal g .number ≡ 0 → baseWriteRefusal g .place ≡ bytes (start g)
+unfolding baseJudgeGiven headerRefusal
 start-placed g e =
-    let a = section-placed g .0 e in
-    let end = endNumber (start g) (propertiesGiven g) (g .label) in
-    let none = header-number (g .values .«security_first») g .1 (a .security) in
-    let last : end < 2 = omega (arith, end-number (start g) g .1 (a .properties)) in
-    rw (eq-eqb (number g) 0 none, at-start end (start g) (g .label) last)
+    rw (eq-eqb (number g) 0 (header-number (g .values .«security_first») g .1 (section-placed g .0 e .security)))
+
+-- a SecurityHeader is never empty, and where none would stand first none is refused
+behind-header : (first : Bool) (f : SecurityFields) → first ≡ true → 0 < startOf first f
+unfolding securityLength providerAt certAt signatureAt keyAt
+behind-header true f e = omega arith
+behind-header false f e = absurd (true≢false (sym e))
+
+no-number : (first : Bool) (f : SecurityFields) (identity info : List ℕ) → first ≡ false → headerNumber first f identity info ≡ 0
+unfolding headerNumber
+no-number true f identity info e = absurd (true≢false e)
+no-number false f identity info e = refl
+
+-- so the place of 01's refusal says which header's step has failed
+pub given-refused : (g : Given) (r : Refusal) → r ≡ baseWriteRefusal g
+    → refusalAt (g .values .«security_first») (securityGiven g) (g .providerInfo) (g .label) (r .number) (r .place .0) ≡ writeRefusal g
+unfolding refusalAt judgeGiven baseJudgeGiven sectionRefusal
+given-refused g r e = go (first && eqb (r .place .0) 0) refl
+  where
+    first : Bool
+    first = g .values .«security_first»
+
+    f : SecurityFields
+    f = securityGiven g
+
+    go : (b : Bool) → (first && eqb (r .place .0) 0) ≡ b
+        → cond b (refusal (r .number) (securityPlace (r .number) f (min (limit + 1) (providerAt f)) (g .providerInfo)))
+        (propertiesRefusal (r .number) (min (limit + 1) (r .place .0)) (g .label))
+        ≡ writeRefusal g
+    go true t =
+        let a = in-security first _ _ _ (behind-header first f) (no-number first f (g .senderId) (g .providerInfo)) r e t in
+        let small = header-small first f (g .senderId) (g .providerInfo) in
+        unclamped (r .number) f (g .providerInfo) (λ q. small (sym (a .2) ∙ q)) ∙ rw (a .2, ne-eqb (number g) 0 (a .1))
+    go false t =
+        let a = in-properties first _ _ _ (behind-header first f) (no-number first f (g .senderId) (g .providerInfo)) r e t in
+        let at : min (limit + 1) (r .place .0) ≡ start g = omega (arith, a .2, header-start first g (a .0)) in
+        rw (at, a .1, eq-eqb (number g) 0 (a .0))

@@ -1,6 +1,6 @@
 -- The refusal and the test on LabelLength pick the case of `labelPart`.
 use Prim.Native.Nat.{ℕ, _+_, _*_}
-use mathlib.Core.Path.{_≡_, ap, ap₂, sym, subst, _∙_}
+use mathlib.Core.Path.{_≡_, refl, ap, ap₂, sym, subst, _∙_}
 use mathlib.Core.Bool.{Bool}
 use mathlib.Core.List.{List}
 use native.Mathlib.Omega.{arith}
@@ -25,7 +25,7 @@ use Rattle.reading.proofs.label.label_part.Tie as tie
 returns : tie.Need-returns
 unfolding labelPart
 returns c =
-    let refused = refused-told _ _ (the tie.After-judge (search) .judge .ensures) (the tie.Then1 (search) .if1 .taken) in
+    let refused = refused-told _ _ (the tie.After-base-judge (search) .base-judge .ensures) (the tie.Then1 (search) .if1 .taken) refl in
     rw refused (c .part .ensures)
 
 first : tie.Else1 → Bool
@@ -36,14 +36,14 @@ input c = now (the tie.Start (search) .args .s)
 
 none : (c : tie.Else1) → judge (first c) (input c) .number ≡ 0
 unfolding first input
-none c = none-told _ _ (the tie.After-judge (search) .judge .ensures) (c .if1 .left)
+none c = none-told _ _ (the tie.After-base-judge (search) .base-judge .ensures) (c .if1 .left)
 
 read : (c : tie.Else1) → Passed (first c) (input c)
 read c = accepted (first c) (input c) (none c)
 
-place : (c : tie.Else1) → the tie.After-judge (search) .judge .result .place .0 ≡ startAt (first c) (input c)
+place : (c : tie.Else1) → the tie.After-base-judge (search) .base-judge .result .place .0 ≡ startAt (first c) (input c)
 unfolding first input
-place c = ap (λ (x : Refusal). x .place .0) (the tie.After-judge (search) .judge .ensures) ∙ read c .place
+place c = ap (λ (x : Refusal). x .place .0) (the tie.After-base-judge (search) .base-judge .ensures) ∙ read c .place
 
 fields-at-requires : tie.Need-fields-at-requires
 unfolding input

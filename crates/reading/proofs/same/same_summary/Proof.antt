@@ -8,15 +8,15 @@ use Rattle.reading.proofs.same.same_summary.Statement.{statement}
 use Rattle.reading.proofs.same.same_summary.Tie as tie
 
 returns : tie.Need-returns
-returns c = fails (refused-left _ _ _ (some-told _ _ (the tie.After-judge (search) .judge .ensures) (c .if1 .taken)))
+returns c = fails (refused-left _ _ _ (some-told _ _ (the tie.After-base-judge (search) .base-judge .ensures) (c .if1 .taken)))
 
 returns-2 : tie.Need-returns-2
-returns-2 c = fails (refused-right _ _ _ (some-told _ _ (the tie.After-judge2 (search) .judge2 .ensures) (c .if2 .taken)))
+returns-2 c = fails (refused-right _ _ _ (some-told _ _ (the tie.After-base-judge2 (search) .base-judge2 .ensures) (c .if2 .taken)))
 
 same-accepted-requires : tie.Need-same-accepted-requires
 same-accepted-requires c κs = (
-  none-told _ _ (the tie.After-judge (search) .judge .ensures) (the tie.Else1 (search) .if1 .left),
-  none-told _ _ (the tie.After-judge2 (search) .judge2 .ensures) (c .if2 .left),
+  none-told _ _ (the tie.After-base-judge (search) .base-judge .ensures) (the tie.Else1 (search) .if1 .left),
+  none-told _ _ (the tie.After-base-judge2 (search) .base-judge2 .ensures) (c .if2 .left),
 )
 
 returns-3 : tie.Need-returns-3

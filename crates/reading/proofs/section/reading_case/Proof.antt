@@ -17,7 +17,7 @@ use Rattle.reading.proofs.section.reading_case.Tie as tie
 
 returns : tie.Need-returns
 unfolding readingCase read fullReading
-returns c = rw (refused-told _ _ (the tie.After-judge (search) .judge .ensures) (c .if1 .taken))
+returns c = rw (refused-told _ _ (the tie.After-base-judge (search) .base-judge .ensures) (the tie.Then1 (search) .if1 .taken) (c .judge .ensures))
 
 input : tie.Else1 → List ℕ
 input c = now (the tie.Start (search) .args .s)
@@ -27,7 +27,7 @@ first c = the tie.Start (search) .args .security-first
 
 none : (c : tie.Else1) → judge (first c) (input c) .number ≡ 0
 unfolding input first
-none c = none-told _ _ (the tie.After-judge (search) .judge .ensures) (c .if1 .left)
+none c = none-told _ _ (the tie.After-base-judge (search) .base-judge .ensures) (c .if1 .left)
 
 secured : (c : tie.Then2) → judge true (input (c .before)) .number ≡ 0
 unfolding first
@@ -76,6 +76,7 @@ pub reading-case-spec : {M : Type 1} → statement M
 reading-case-spec =
     tie.close
     (tie.spec
+    (λ c κs. search needs)
     (λ c κs. search needs)
     returns
     security-header-requires

@@ -14,10 +14,10 @@ use Rattle.reading.proofs.section.summarize.Statement.{statement}
 use Rattle.reading.proofs.section.summarize.Tie as tie
 
 returns : tie.Need-returns
-returns c = sym (refused-told _ _ (the tie.After-judge (search) .judge .ensures) (c .if1 .taken))
+returns c = sym (refused-told _ _ (the tie.After-base-judge (search) .base-judge .ensures) (the tie.Then1 (search) .if1 .taken) (c .judge .ensures))
 
 none : (c : tie.Else1) → judge (the tie.Start (search) .args .security-first) (now (the tie.Start (search) .args .s)) .number ≡ 0
-none c = none-told _ _ (the tie.After-judge (search) .judge .ensures) (c .if1 .left)
+none c = none-told _ _ (the tie.After-base-judge (search) .base-judge .ensures) (c .if1 .left)
 
 header-at-requires : tie.Need-header-at-requires
 header-at-requires c κs = none (search)
@@ -39,6 +39,7 @@ pub summarize-spec : {M : Type 1} → statement M
 summarize-spec =
     tie.close
     (tie.spec
+    (λ c κs. search needs)
     (λ c κs. search needs)
     returns
     header-at-requires

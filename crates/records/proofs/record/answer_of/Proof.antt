@@ -32,7 +32,7 @@ lineOf f size =
 
 returns : tie.Need-returns
 unfolding answerOf
-returns c = rw (refused-told _ _ (the tie.After-judge (search) .judge .ensures) (c .if1 .taken))
+returns c = rw (refused-told _ _ (the tie.After-base-judge (search) .base-judge .ensures) (the tie.Then1 (search) .if1 .taken) (c .judge .ensures))
 
 first : tie.Else1 → Bool
 first c = the tie.Start (search) .args .security-first
@@ -42,7 +42,7 @@ input c = now (the tie.Start (search) .args .section)
 
 none : (c : tie.Else1) → judge (first c) (input c) .number ≡ 0
 unfolding first input
-none c = none-told _ _ (the tie.After-judge (search) .judge .ensures) (c .if1 .left)
+none c = none-told _ _ (the tie.After-base-judge (search) .base-judge .ensures) (c .if1 .left)
 
 returns-2 : tie.Need-returns-2
 unfolding first input answerOf summaryAt summaryOf
@@ -60,6 +60,7 @@ pub answer-of-spec : {M : Type 1} → statement M
 answer-of-spec =
     tie.close
     (tie.spec
+    (λ c κs. search needs)
     (λ c κs. search needs)
     returns
     (λ c κs. search needs)

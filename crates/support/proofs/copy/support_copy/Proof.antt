@@ -24,7 +24,7 @@ use Rattle.support.proofs.copy.support_copy.Tie as tie
 returns : tie.Need-returns
 unfolding supportAnswer supportBytes copyAnswer copyOutput
 returns c =
-    let refused = refused-told _ _ (the tie.After-judge (search) .judge .ensures) (c .if1 .taken) in
+    let refused = refused-told _ _ (the tie.After-base-judge (search) .base-judge .ensures) (the tie.Then1 (search) .if1 .taken) (c .judge .ensures) in
     (rw refused, rw refused)
 
 first : tie.Else1 → Bool
@@ -35,7 +35,7 @@ input c = now (the tie.Start (search) .args .s)
 
 none : (c : tie.Else1) → judge (first c) (input c) .number ≡ 0
 unfolding first input
-none c = none-told _ _ (the tie.After-judge (search) .judge .ensures) (c .if1 .left)
+none c = none-told _ _ (the tie.After-base-judge (search) .base-judge .ensures) (c .if1 .left)
 
 start : (c : tie.After-properties-start) → c .properties-start .result .0 ≡ startAt (first (c .before)) (input (c .before))
 unfolding first input
@@ -93,6 +93,7 @@ pub support-copy-spec : {M : Type 1} → statement M
 support-copy-spec =
     tie.close
     (tie.spec
+    (λ c κs. search needs)
     (λ c κs. search needs)
     returns
     (λ c κs. search needs)

@@ -18,7 +18,7 @@ use Rattle.writing.specs.Given.{Given, held, securityGiven}
 use Rattle.writing.specs.Laid.{SectionLaid}
 use Rattle.writing.specs.Writing.{layoutLength, sectionBytes, startOf, writeAnswer, writeBytes, writeRefusal}
 use Rattle.writing.proofs.Laws.Laid.{label-small, section-laid}
-use Rattle.writing.proofs.Laws.Placed.{section-placed, start-placed}
+use Rattle.writing.proofs.Laws.Placed.{section-placed, start-placed, write-number}
 use borrow.Author.Needs.{needs}
 use Rattle.writing.proofs.section.write_judged.Statement.{statement}
 use Rattle.writing.proofs.section.write_judged.Tie as tie
@@ -31,7 +31,7 @@ section c =
 
 -- no step refuses it
 passed : (c : tie.Start) → writeRefusal (section c) .number ≡ 0
-passed c = ap (λ (r : Refusal). r .number) (c .pre)
+passed c = write-number (section c) ∙ ap (λ (r : Refusal). r .number) (c .pre)
 
 -- where its MessagePropertiesHeader begins, and where it ends
 started : (c : tie.Start) → c .args .start .0 ≡ startOf (c .args .values .«security_first») (securityGiven (section c))

@@ -9,6 +9,7 @@ use Rattle.rules.specs.declared.section.Output.the-variants.{Refused}
 use Rattle.rules.proofs.Laws.Output.{answer-refused}
 use Rattle.writing.specs.Given.{Given, held}
 use Rattle.writing.specs.Writing.{layoutLength, sectionBytes, writeAnswer, writeBytes, writeRefusal}
+use Rattle.writing.proofs.Laws.Placed.{given-refused, write-number}
 use borrow.Author.Needs.{needs}
 use Rattle.writing.proofs.section.write_section.Statement.{statement}
 use Rattle.writing.proofs.section.write_section.Tie as tie
@@ -22,12 +23,14 @@ section c =
 returns : tie.Need-returns
 unfolding writeAnswer writeBytes writerOutput
 returns c =
-    let judged = the tie.After-judge (search) .judge in
+    let judged = the tie.After-judge (search) .judge .ensures in
     let start = the tie.Start (search) in
     let g = section start in
     let out = now (start .args .out) in
-    let some : ¬ (writeRefusal g .number ≡ 0) = λ e. c .if1 .taken (ap (λ (r : Refusal). r .number) (judged .ensures) ∙ e) in
-    let answer = ap Refused (judged .ensures) ∙ answer-refused (writeRefusal g) (layoutLength g) out some in
+    let number = ap (λ (r : Refusal). r .number) judged ∙ sym (write-number g) in
+    let some : ¬ (writeRefusal g .number ≡ 0) = λ e. the tie.Then1 (search) .if1 .taken (number ∙ e) in
+    let refused = c .refused .ensures ∙ given-refused g _ judged in
+    let answer = ap Refused refused ∙ answer-refused (writeRefusal g) (layoutLength g) out some in
     (answer, ap (λ (a : Output). writerOutput a (sectionBytes g) out) answer)
 
 write-judged-requires : tie.Need-write-judged-requires
@@ -39,6 +42,7 @@ pub write-section-spec : {M : Type 1} → statement M
 write-section-spec =
     tie.close
     (tie.spec
+    (λ c κs. search needs)
     (λ c κs. search needs)
     returns
     write-judged-requires

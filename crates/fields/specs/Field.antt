@@ -64,8 +64,9 @@ fieldAt first s place =
 unfoldable pub ofHeader : Refusal → Bool
 ofHeader r = eqb (r .number) 1 || eqb (r .number) 8 || (eqb (r .number) 7 && eqb (r .place .0) 0)
 
--- the field that a refusal is about: 34 for the SecurityHeader, 35 for the MessagePropertiesHeader
+-- the field that a refusal is about: 34 for the SecurityHeader, 35 for the MessagePropertiesHeader; none for a number that no S or P step has
 unfoldable pub refusedField : Bool → List ℕ → Refusal → FieldAt
 refusedField first s r =
-    cond (ofHeader r) (cond (first && eqb (r .place .0) 0) (field 34 0) (field 35 0))
-    (fieldAt first s (r .place .0))
+    cond (ltb 12 (r .number)) (field 0 0)
+    (cond (ofHeader r) (cond (first && eqb (r .place .0) 0) (field 34 0) (field 35 0))
+    (fieldAt first s (r .place .0)))

@@ -97,10 +97,14 @@ fn header_at(security_first: bool, place: Bytes) -> FieldAt
     field_at_offset(field::MESSAGE_PROPERTIES_HEADER, 0)
 }
 
-// The field that a refusal of reading is about, at its place in the same input; the header, where it is about none.
+// The field that a refusal of reading is about, at its place in the same input; the header, where it is about no field;
+// none for a number that reading does not give. With number 0 it names the place alone.
 pub fn refused_field(s: &[u8], security_first: bool, refused: Refusal) -> FieldAt
     ensures { λ r. ⌜ r ≡ refusedField «security_first» (now (s .entry)) refused ⌝ }
 {
+    if refusal::LABEL < refused.number {
+        return field_at_offset(field::NONE, 0);
+    }
     if is_of_header(refused) {
         return header_at(security_first, refused.place);
     }

@@ -6,21 +6,18 @@ use octets::count::Units;
 use octets::padding::padding;
 use octets::part::within;
 use rules::layout::part;
-use rules::place::properties_refusal;
 use rules::properties::PropertiesFields;
 use rules::properties::PropertiesParts;
 use rules::properties::label_contents;
 use rules::properties::properties_steps;
 use rules::refusal;
-use rules::refusal::Refusal;
 use rules::section::LIMIT;
 ghost use mathlib.Core.Path.{_≡_};
 ghost use mathlib.Core.List.{[]};
 ghost use Prim.Native.Nat.{_+_, _≤_};
 ghost use lib.ListN.{drop, length};
-ghost use Rattle.rules.specs.Place.{propertiesRefusal};
 ghost use Rattle.rules.specs.Properties.{propertiesFields, propertiesParts};
-ghost use Rattle.rules.specs.Reading.{labelAt, propertiesNumber};
+ghost use Rattle.rules.specs.Reading.{propertiesNumber};
 ghost use Rattle.rules.specs.Refusal.{limit};
 ghost use Rattle.rules.specs.Summary.{partOf};
 ghost use Rattle.reading.specs.Fields.{PropertiesSizes, propertiesRead};
@@ -135,16 +132,4 @@ pub(crate) fn properties_number(s: &[u8], at: Bytes) -> u32
         return refusal::INPUT_SHORT;
     }
     label_contents(label_at(s, fields, at))
-}
-
-// The refusal by a number that P1 to P7 gave.
-pub(crate) fn refused_properties(s: &[u8], at: Bytes, number: u32) -> Refusal
-    requires { ⌜ at .0 ≤ limit ⌝ }
-    requires { ⌜ number ≡ propertiesNumber (now s) (at .0) ⌝ }
-    ensures { λ r. ⌜ r ≡ propertiesRefusal number (at .0) (labelAt (now (s .entry)) (at .0)) ⌝ }
-{
-    if s.len() < at.0 + 56 {
-        return Refusal { number, place: at };
-    }
-    properties_refusal(number, at, label_at(s, fields_at(s, at), at))
 }

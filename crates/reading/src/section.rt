@@ -1,17 +1,19 @@
 // Reading a section: every step first, then the summary and the full reading of what passed them.
 use crate::field::u32_in;
 use crate::properties::fields_at;
+use crate::properties::label_at;
+use crate::properties::properties_fields;
 use crate::properties::properties_number;
 use crate::properties::properties_parts;
-use crate::properties::refused_properties;
 use crate::security::header_length;
 use crate::security::no_security;
-use crate::security::refused_security;
+use crate::security::provider_info;
 use crate::security::security_fields;
 use crate::security::security_header;
 use crate::security::security_number;
 use octets::count::Bytes;
 use rules::layout::part;
+use rules::place::section_refusal;
 use rules::properties::PropertiesFields;
 use rules::refusal;
 use rules::refusal::Refusal;
@@ -90,11 +92,17 @@ pub fn judge(s: &[u8], security_first: bool) -> Refusal
     ensures { λ r. ⌜ r ≡ judge «security_first» (now (s .entry)) ⌝ }
 {
     let judged = base_judge(s, security_first);
-    let is_security = security_first & (judged.place.0 == 0);
-    if is_security {
-        return refused_security(s, judged.number);
-    }
-    refused_properties(s, judged.place, judged.number)
+    let at = judged.place;
+    let security = security_fields(s);
+    let label = label_at(s, properties_fields(s, at), at);
+    section_refusal(
+        judged.number,
+        at,
+        security_first,
+        security,
+        provider_info(s, security),
+        label,
+    )
 }
 
 pub(crate) fn header_at(s: &[u8], security_first: bool) -> SecurityHeader

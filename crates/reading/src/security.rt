@@ -5,9 +5,7 @@ use octets::count::Bytes;
 use octets::padding::padding;
 use octets::part::within;
 use rules::layout::part;
-use rules::place::security_refusal;
 use rules::refusal;
-use rules::refusal::Refusal;
 use rules::section::LIMIT;
 use rules::section::Part;
 use rules::security::AU;
@@ -23,8 +21,7 @@ ghost use lib.ListN.{length};
 ghost use lib.Dec.{eqb};
 ghost use Rattle.octets.specs.Number.{le};
 ghost use Rattle.octets.specs.Padding.{padded};
-ghost use Rattle.rules.specs.Place.{securityRefusal};
-ghost use Rattle.rules.specs.Reading.{headerAt, judge, providerInfoAt, securityNumber, startAt};
+ghost use Rattle.rules.specs.Reading.{headerAt, judge, securityNumber, startAt};
 ghost use Rattle.rules.specs.Security.{securityContents, securityFields, securityLength, securityParts};
 ghost use Rattle.rules.specs.Summary.{noSecurity, partOf};
 ghost use Rattle.reading.specs.Fields.{SecuritySizes, securityRead};
@@ -167,20 +164,13 @@ pub(crate) fn security_number(s: &[u8]) -> u32
     contents_number(s, fields)
 }
 
-// The refusal by a number that S1 to S11 gave.
-pub(crate) fn refused_security(s: &[u8], number: u32) -> Refusal
-    requires { ⌜ number ≡ securityNumber true (now s) ⌝ }
-    ensures { λ r. ⌜ r ≡ securityRefusal number (securityFields (now (s .entry))) (providerInfoAt (now (s .entry))) ⌝ }
+// The provider info of the header at the input's first byte; none where it is not all there.
+pub(crate) fn provider_info(s: &[u8], f: SecurityFields) -> &[u8]
+    requires { ⌜ SecuritySizes f ⌝ }
+    ensures { λ r. ⌜ now r ≡ partOf (now (s .entry)) (securityParts f .«provider_info») ⌝ }
 {
-    if s.len() < 16 {
-        return Refusal {
-            number,
-            place: Bytes(0),
-        };
-    }
-    let fields = fields_of(s);
-    let info = security_parts(fields).provider_info;
-    security_refusal(number, fields, within(s, info.start, info.length))
+    let info = security_parts(f).provider_info;
+    within(s, info.start, info.length)
 }
 
 // A byte of the identity for ST 1, else 0.

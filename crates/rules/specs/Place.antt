@@ -1,11 +1,11 @@
 -- C-17, "Say which byte": the place of a refusal is "the first byte of the field that failed", in the input.
-use Prim.Native.Nat.{ℕ, _+_}
-use mathlib.Core.Bool.{cond}
+use Prim.Native.Nat.{ℕ, _+_, min}
+use mathlib.Core.Bool.{Bool, _&&_, cond}
 use mathlib.Core.List.{List}
 use lib.ListN.{drop}
 use lib.Dec.{eqb}
 use Rattle.octets.specs.Text.{breakAt}
-use Rattle.rules.specs.Refusal.{refusal}
+use Rattle.rules.specs.Refusal.{limit, refusal}
 use Rattle.rules.specs.Security.{DP, providerAt, securitySteps}
 use Rattle.rules.specs.declared.refusal.Refusal.{Refusal}
 use Rattle.rules.specs.declared.security.SecurityFields.{SecurityFields}
@@ -46,3 +46,10 @@ sectionRefusal n f info m p label = cond (eqb n 0) (propertiesRefusal m p label)
 -- 01's refusal, before C-17: "Its place is the offset of the header being read."
 unfoldable pub headerRefusal : ℕ → ℕ → ℕ → Refusal
 headerRefusal n m p = cond (eqb n 0) (refusal m p) (refusal n 0)
+
+-- the refusal by a number of the header at an offset, as the code finds it: of the SecurityHeader, where one stands first and the offset is 0. So
+-- that no sum wraps, what lies further than one byte above the limit is taken to lie there.
+unfoldable pub refusalAt : Bool → SecurityFields → List ℕ → List ℕ → ℕ → ℕ → Refusal
+refusalAt first f info label number at =
+    cond (first && eqb at 0) (refusal number (securityPlace number f (min (limit + 1) (providerAt f)) info))
+    (propertiesRefusal number (min (limit + 1) at) label)

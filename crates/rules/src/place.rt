@@ -13,8 +13,8 @@ use octets::text::first_break;
 ghost use mathlib.Core.Path.{_≡_};
 ghost use Prim.Native.Nat.{_+_, _≤_, min};
 ghost use lib.ListN.{length};
-ghost use Rattle.rules.specs.Place.{namePlace, propertiesPlace, propertiesRefusal, securityPlace};
-ghost use Rattle.rules.specs.Refusal.{limit, refusal};
+ghost use Rattle.rules.specs.Place.{namePlace, propertiesPlace, refusalAt, securityPlace};
+ghost use Rattle.rules.specs.Refusal.{limit};
 ghost use Rattle.rules.specs.Security.{providerAt};
 
 // Where the provider info begins, but at most one byte above the limit, so that no sum wraps.
@@ -83,21 +83,24 @@ fn properties_place(number: u32, label: &[u8]) -> Bytes
     Bytes(0)
 }
 
-// The refusal by a number of S1 to S11. The code's sum does not wrap, as the provider info is taken to begin at most one
-// byte above the limit: so it does wherever S11 fails.
-pub fn security_refusal(number: u32, f: SecurityFields, info: &[u8]) -> Refusal
-    ensures { λ r. ⌜ r ≡ refusal number (securityPlace number f (min (limit + 1) (providerAt f)) (now (info .entry))) ⌝ }
+// The refusal by a number of the header at `at`: of the SecurityHeader, where one stands first and `at` is 0.
+pub fn section_refusal(
+    number: u32,
+    at: Bytes,
+    security_first: bool,
+    f: SecurityFields,
+    info: &[u8],
+    label: &[u8],
+) -> Refusal
+    ensures { λ r. ⌜ r ≡ refusalAt «security_first» f (now (info .entry)) (now (label .entry)) number (at .0) ⌝ }
 {
-    Refusal {
-        number,
-        place: security_place(number, f, info),
+    let is_security = security_first & (at.0 == 0);
+    if is_security {
+        return Refusal {
+            number,
+            place: security_place(number, f, info),
+        };
     }
-}
-
-// The refusal by a number of P1 to P7, of a header at `at`, which is taken to be at most one byte above the limit.
-pub fn properties_refusal(number: u32, at: Bytes, label: &[u8]) -> Refusal
-    ensures { λ r. ⌜ r ≡ propertiesRefusal number (min (limit + 1) (at .0)) (now (label .entry)) ⌝ }
-{
     let start = smaller(Bytes(LIMIT + 1), at);
     Refusal {
         number,

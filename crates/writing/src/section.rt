@@ -7,8 +7,7 @@ use crate::security::security_number;
 use crate::security::write_security;
 use crate::values::SectionValues;
 use octets::count::Bytes;
-use rules::place::properties_refusal;
-use rules::place::security_refusal;
+use rules::place::section_refusal;
 use rules::properties::section_end;
 use rules::refusal;
 use rules::refusal::Refusal;
@@ -20,8 +19,8 @@ ghost use mathlib.Core.Path.{_≡_};
 ghost use Prim.Native.Nat.{_+_, min};
 ghost use Rattle.octets.specs.Over.{over};
 ghost use Rattle.rules.specs.Refusal.{limit, refusal};
-ghost use Rattle.writing.specs.Given.{held, lent, securityFrom};
-ghost use Rattle.writing.specs.Laid.{SectionLaid, refusalAt};
+ghost use Rattle.writing.specs.Given.{held, lent};
+ghost use Rattle.writing.specs.Laid.{SectionLaid};
 ghost use Rattle.writing.specs.Writing.{baseWriteRefusal, headerNumber, sectionBytes, startOf};
 ghost use Rattle.writing.specs.Writing.{writeAnswer, writeBytes};
 
@@ -80,39 +79,6 @@ fn judge(
         number: properties_number(values, label, extension, body, at),
         place: at,
     }
-}
-
-// The refusal by a number of the header at `at`, its place that of the field that failed. (The fields are made anew, so
-// that no struct of them is held for this alone.)
-fn refused(
-    values: SectionValues,
-    sender_id: &[u8],
-    encryption_key: &[u8],
-    signature: &[u8],
-    sender_cert: &[u8],
-    provider_info: &[u8],
-    label: &[u8],
-    number: u32,
-    at: Bytes,
-) -> Refusal
-    ensures { λ r. ⌜ r ≡ refusalAt (values .«security_first»)
-        (securityFrom (values .«security_flags») (now («sender_id» .entry)) (now («encryption_key» .entry))
-        (now (signature .entry)) (now («sender_cert» .entry)) (now («provider_info» .entry)))
-        (now («provider_info» .entry)) (now (label .entry)) number (at .0) ⌝ }
-{
-    let is_security = values.security_first & (at.0 == 0);
-    if is_security {
-        let security = security_given(
-            values.security_flags,
-            sender_id,
-            encryption_key,
-            signature,
-            sender_cert,
-            provider_info,
-        );
-        return security_refusal(number, security, provider_info);
-    }
-    properties_refusal(number, at, label)
 }
 
 // The section, where every step has passed and the output has room. Its MessagePropertiesHeader begins at `start`.
@@ -238,16 +204,22 @@ pub fn write_section(
         body,
     );
     if judged.number != refusal::PASSED {
-        return Output::Refused(refused(
-            values,
+        // made anew, so that no struct of fields is held for this alone
+        let security = security_given(
+            values.security_flags,
             sender_id,
             encryption_key,
             signature,
             sender_cert,
             provider_info,
-            label,
+        );
+        return Output::Refused(section_refusal(
             judged.number,
             judged.place,
+            values.security_first,
+            security,
+            provider_info,
+            label,
         ));
     }
     write_judged(

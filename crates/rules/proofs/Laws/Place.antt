@@ -1,14 +1,13 @@
 -- Places: of a 7 by its cause, and that no place of a unit is above the limit.
-use Prim.Native.Nat.{ℕ, zero, suc, _+_, _≤_, _<_, min}
+use Prim.Native.Nat.{ℕ, _+_, _≤_, _<_, min}
 use mathlib.Core.Path.{_≡_, refl, sym, ap, _∙_}
 use mathlib.Core.Bool.{Bool, true, false, _&&_, cond, and-eq-true-iff, and-true}
 use mathlib.Core.List.{List}
-use native.Mathlib.Nat.{add-zero}
 use native.Mathlib.Omega.{arith}
 use borrow.Author.Tests.{eq-eqb, eqb-false, eqb-true, lt-ltb, ltb-false, ne-eqb}
 use lib.Dec.{eqb, ltb}
 use lib.ListN.{length}
-use Rattle.rules.specs.Place.{headerRefusal, namePlace, propertiesPlace, propertiesRefusal, securityPlace, securityRefusal}
+use Rattle.rules.specs.Place.{headerRefusal, namePlace, propertiesRefusal, refusalAt, sectionRefusal, securityPlace, securityRefusal}
 use Rattle.rules.specs.Reading.{propertiesNumber, securityNumber}
 use Rattle.rules.specs.Refusal.{firstOf, limit, refusal}
 use Rattle.rules.specs.Properties.{readProperties}
@@ -48,17 +47,6 @@ unclamped n f info small = ap (refusal n) (go (eqb n 7) (eqb (securitySteps f) 0
     go true false e z = rw (e, z)
     go false z e _ = rw e
 
--- of a header that passed, and of one whose fixed bytes are not there: its start
-pub at-start : (n p : ℕ) (label : List ℕ) → n < 2 → propertiesRefusal n p label ≡ refusal n p
-unfolding propertiesRefusal propertiesPlace
-at-start zero p label l = rw (add-zero p)
-at-start (suc zero) p label l = rw (add-zero p)
-at-start (suc (suc n)) p label l = absurd (omega arith)
-
-pub security-at-start : (n : ℕ) (f : SecurityFields) (info : List ℕ) → n ≡ 1 → securityRefusal n f info ≡ refusal n 0
-unfolding securityRefusal securityPlace
-security-at-start n f info e = rw e
-
 -- which header a refusal is of, by its place, where a SecurityHeader that stands first is not empty and one that does not refuses nothing
 module _ (first : Bool) (n m p : ℕ) (long : first ≡ true → 0 < p) (none : first ≡ false → n ≡ 0) (r : Refusal) (e : r ≡ headerRefusal n m p) where
   abbrev at : Bool → Refusal
@@ -91,6 +79,26 @@ module _ (first : Bool) (n m p : ℕ) (long : first ≡ true → 0 < p) (none : 
           let start : r .place .0 ≡ 0 = ap (λ (x : Refusal). x .place .0) (told false f) in
           let second : first ≡ false = sym (and-true first) ∙ ap (λ (b : Bool). first && b) (sym (eq-eqb (r .place .0) 0 start)) ∙ t in
           absurd (eqb-false n 0 f (none second))
+
+-- so what the code finds is the refusal; the label is the one at the place
+module _ (first : Bool) (n : ℕ) (f : SecurityFields) (info : List ℕ) (m p : ℕ) (label : ℕ → List ℕ)
+    (small : n ≡ 7 → securitySteps f ≡ 0 → securityLength f ≤ limit) (start : n ≡ 0 → p ≤ limit) where
+  pub refused-at : (first ≡ true → 0 < p) → (first ≡ false → n ≡ 0) → (r : Refusal) → r ≡ headerRefusal n m p
+      → refusalAt first f info (label (r .place .0)) (r .number) (r .place .0) ≡ sectionRefusal n f info m p (label p)
+  unfolding refusalAt sectionRefusal
+  refused-at long none r e = go (first && eqb (r .place .0) 0) refl
+    where
+      go : (b : Bool) → (first && eqb (r .place .0) 0) ≡ b
+          → cond b (refusal (r .number) (securityPlace (r .number) f (min (limit + 1) (providerAt f)) info))
+          (propertiesRefusal (r .number) (min (limit + 1) (r .place .0)) (label (r .place .0)))
+          ≡ sectionRefusal n f info m p (label p)
+      go true t =
+          let a = in-security first n m p long none r e t in
+          rw (a .2, ne-eqb n 0 (a .1)) (unclamped n f info small)
+      go false t =
+          let a = in-properties first n m p long none r e t in
+          let at : min (limit + 1) (r .place .0) ≡ p = omega (arith, a .2, start (a .0)) in
+          rw (at, a .1, a .2, eq-eqb n 0 (a .0))
 
 module _ (s : List ℕ) where
   pub security-small : securityNumber true s ≡ 7 → let f = securityFields s in securitySteps f ≡ 0 → securityLength f ≤ limit

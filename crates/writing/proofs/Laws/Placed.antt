@@ -1,23 +1,22 @@
 -- What values and parts have passed where no step but 13 refuses them, and that none refuses where they passed.
-use Prim.Native.Nat.{ℕ, suc, _+_, _%_, _≤_, _<_, min}
-use mathlib.Core.Path.{_≡_, refl, sym, ap, _∙_}
+use Prim.Native.Nat.{ℕ, suc, _+_, _%_, _≤_, _<_}
+use mathlib.Core.Path.{_≡_, refl, sym, _∙_}
 use mathlib.Core.Logic.{_↔_}
-use mathlib.Core.Bool.{Bool, true, false, not, _&&_, cond, true≢false}
+use mathlib.Core.Bool.{Bool, true, false, not, cond, true≢false}
 use mathlib.Core.List.{List}
 use native.Mathlib.Omega.{arith}
-use borrow.Author.Tests.{eq-eqb, eqb-true, le-ltb, ltb-false, ne-eqb, not-false}
+use borrow.Author.Tests.{eq-eqb, eqb-true, le-ltb, ltb-false, not-false}
 use lib.ListN.{length}
 use lib.Dec.{eqb, ltb}
-use Rattle.rules.specs.Place.{headerRefusal, propertiesRefusal, sectionRefusal, securityPlace}
+use Rattle.rules.specs.Place.{headerRefusal, refusalAt}
 use Rattle.rules.specs.Properties.{labelContents, labelText, propertiesLength, propertiesSteps}
-use Rattle.rules.specs.Refusal.{bytes, limit, refusal}
+use Rattle.rules.specs.Refusal.{bytes, limit}
 use Rattle.rules.specs.Security.{certAt, identityHead, keyAt, providerAt, providerText, securityContents, securityLength, securitySteps, signatureAt}
 use Rattle.rules.specs.declared.refusal.Refusal.{Refusal}
 use Rattle.rules.specs.declared.security.SecurityFields.{SecurityFields}
 use Rattle.rules.proofs.Laws.Accepted.{first-next, first-passed, number-passed, passed, section-number}
-use Rattle.rules.proofs.Laws.Place.{in-properties, in-security, small-header, unclamped}
+use Rattle.rules.proofs.Laws.Place.{refused-at, small-header}
 use Rattle.writing.specs.Given.{Given, propertiesGiven, securityGiven}
-use Rattle.writing.specs.Laid.{refusalAt}
 use Rattle.writing.specs.Writing.{baseJudgeGiven, baseWriteRefusal, endNumber, headerNumber, judgeGiven, startOf, tooLarge, writeRefusal}
 use Rattle.writing.specs.Writing.{writeSecurity}
 
@@ -158,24 +157,9 @@ no-number false f identity info e = refl
 -- so the place of 01's refusal says which header's step has failed
 pub given-refused : (g : Given) (r : Refusal) → r ≡ baseWriteRefusal g
     → refusalAt (g .values .«security_first») (securityGiven g) (g .providerInfo) (g .label) (r .number) (r .place .0) ≡ writeRefusal g
-unfolding refusalAt judgeGiven baseJudgeGiven sectionRefusal
-given-refused g r e = go (first && eqb (r .place .0) 0) refl
-  where
-    first : Bool
-    first = g .values .«security_first»
-
-    f : SecurityFields
-    f = securityGiven g
-
-    go : (b : Bool) → (first && eqb (r .place .0) 0) ≡ b
-        → cond b (refusal (r .number) (securityPlace (r .number) f (min (limit + 1) (providerAt f)) (g .providerInfo)))
-        (propertiesRefusal (r .number) (min (limit + 1) (r .place .0)) (g .label))
-        ≡ writeRefusal g
-    go true t =
-        let a = in-security first _ _ _ (behind-header first f) (no-number first f (g .senderId) (g .providerInfo)) r e t in
-        let small = header-small first f (g .senderId) (g .providerInfo) in
-        unclamped (r .number) f (g .providerInfo) (λ q. small (sym (a .2) ∙ q)) ∙ rw (a .2, ne-eqb (number g) 0 (a .1))
-    go false t =
-        let a = in-properties first _ _ _ (behind-header first f) (no-number first f (g .senderId) (g .providerInfo)) r e t in
-        let at : min (limit + 1) (r .place .0) ≡ start g = omega (arith, a .2, header-start first g (a .0)) in
-        rw (at, a .1, eq-eqb (number g) 0 (a .0))
+unfolding judgeGiven baseJudgeGiven
+given-refused g r e =
+    let first = g .values .«security_first» in
+    let f = securityGiven g in
+    refused-at first (number g) f (g .providerInfo) _ (start g) (λ _. g .label) (header-small first f (g .senderId) (g .providerInfo))
+    (header-start first g) (behind-header first f) (no-number first f (g .senderId) (g .providerInfo)) r e

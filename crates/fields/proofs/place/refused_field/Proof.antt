@@ -11,6 +11,8 @@ refused-field-spec =
     tie.close
     (tie.spec
     (λ c κs. search needs)
+    (λ c. search steps depth 20)
+    (λ c κs. search needs)
     (λ c κs. search needs)
     (λ c. search steps depth 20)
     (λ c κs. search needs)

@@ -17,8 +17,12 @@
  * stay as they were. Unnamed bytes between the members of a struct hold anything: compare members, not whole structs.
  *
  *     ugb_reading answer = ugb_read(bytes, length, true);
- *     if (answer.refusal.number != UGB_ACCEPTED)
- *         fprintf(stderr, "%s, at %zu\n", ugb_refusal_text(answer.refusal.number), answer.refusal.place);
+ *     if (answer.refusal.number != UGB_ACCEPTED) {
+ *         char words[UGB_WORDS];
+ *         ugb_field_words(ugb_refused_field(bytes, length, true, answer.refusal), words, sizeof words);
+ *         fprintf(stderr, "refused %u at %zu (%s): %s\n", (unsigned)answer.refusal.number, answer.refusal.place, words,
+ *                 ugb_refusal_text(answer.refusal.number));
+ *     }
  *
  * Whether a SecurityHeader stands first, no byte of the section says: whoever has the section knows it from where it
  * came. ugb_send and ugb_next_record say it of theirs. Read the other way, a section may be accepted with wrong values.
@@ -35,9 +39,9 @@ extern "C" {
 #endif
 
 #define UGB_VERSION_MAJOR 1
-#define UGB_VERSION_MINOR 1
+#define UGB_VERSION_MINOR 2
 #define UGB_VERSION_PATCH 0
-#define UGB_VERSION "1.1.0"
+#define UGB_VERSION "1.2.0"
 
 /* 01: a section has at most so many bytes. */
 #define UGB_LIMIT 4194304
@@ -97,9 +101,25 @@ static inline const char *ugb_refusal_text(uint32_t number)
     }
 }
 
+/* The place of a refusal by reading is the offset in the input of what failed; by the section writer, that in the
+ * section that would be written. The MessagePropertiesHeader begins at p.
+ *
+ *     1, 8   the header's start, 0 or p
+ *     2, 3   0, Flags
+ *     4      0, Flags, where DP is clear; else 2, SenderIdSize
+ *     5      8, SenderCertSize
+ *     6      2, SenderIdSize
+ *     7      for ProviderInfoSize 0, the header's start; for the provider name its first unit that breaks the rule
+ *     9      p + 1, LabelLength
+ *     10     p + 2, MessageClass
+ *     11     p + 36, AllocationBodySize
+ *     12     the label's first unit that breaks the rule
+ *
+ * By the rule only the last unit is zero. The first zero unit before the last one breaks it; where there is none, the
+ * last one does. */
 typedef struct ugb_refusal {
     uint32_t number; /* one of the numbers above */
-    size_t place;    /* offset of the header being read, or that would be written; 0 for 13, 28, requests and images */
+    size_t place;    /* as above; 0 for 13, 28, requests and images */
 } ugb_refusal;
 
 /* ---- Bytes, units and parts */
@@ -235,6 +255,115 @@ bool ugb_same_summary(const uint8_t *a, size_t a_length, const uint8_t *b, size_
 
 /* What to show as the label of that section. Never refused. */
 ugb_label ugb_label_shown(const uint8_t *s, size_t s_length, bool security_first);
+
+/* ---- The field at a place */
+
+/* Every field and part of a section in the order of their bytes, then the headers: its name behind UGB_FIELD_, its
+ * number, and what to call it. */
+#define UGB_FIELDS(X)                                                                                                  \
+    X(SECURITY_FLAGS, 1, "SecurityHeader Flags")                                                                       \
+    X(SENDER_ID_SIZE, 2, "SenderIdSize")                                                                               \
+    X(ENCRYPTION_KEY_SIZE, 3, "EncryptionKeySize")                                                                     \
+    X(SIGNATURE_SIZE, 4, "SignatureSize")                                                                              \
+    X(SENDER_CERT_SIZE, 5, "SenderCertSize")                                                                           \
+    X(PROVIDER_INFO_SIZE, 6, "ProviderInfoSize")                                                                       \
+    X(SENDER_ID, 7, "identity")                                                                                        \
+    X(SENDER_ID_PADDING, 8, "padding behind the identity")                                                             \
+    X(ENCRYPTION_KEY, 9, "key")                                                                                        \
+    X(ENCRYPTION_KEY_PADDING, 10, "padding behind the key")                                                            \
+    X(SIGNATURE, 11, "signature")                                                                                      \
+    X(SIGNATURE_PADDING, 12, "padding behind the signature")                                                           \
+    X(SENDER_CERT, 13, "certificate")                                                                                  \
+    X(SENDER_CERT_PADDING, 14, "padding behind the certificate")                                                       \
+    X(PROVIDER_TYPE, 15, "provider type")                                                                              \
+    X(PROVIDER_NAME, 16, "provider name")                                                                              \
+    X(PROVIDER_INFO_PADDING, 17, "padding behind the provider info")                                                   \
+    X(FLAGS, 18, "MessagePropertiesHeader Flags")                                                                      \
+    X(LABEL_LENGTH, 19, "LabelLength")                                                                                 \
+    X(MESSAGE_CLASS, 20, "MessageClass")                                                                               \
+    X(CORRELATION_ID, 21, "CorrelationID")                                                                             \
+    X(BODY_TYPE, 22, "BodyType")                                                                                       \
+    X(APPLICATION_TAG, 23, "ApplicationTag")                                                                           \
+    X(MESSAGE_SIZE, 24, "MessageSize")                                                                                 \
+    X(ALLOCATION_BODY_SIZE, 25, "AllocationBodySize")                                                                  \
+    X(PRIVACY_LEVEL, 26, "PrivacyLevel")                                                                               \
+    X(HASH_ALGORITHM, 27, "HashAlgorithm")                                                                             \
+    X(ENCRYPTION_ALGORITHM, 28, "EncryptionAlgorithm")                                                                 \
+    X(EXTENSION_SIZE, 29, "ExtensionSize")                                                                             \
+    X(LABEL, 30, "label")                                                                                              \
+    X(EXTENSION, 31, "extension")                                                                                      \
+    X(BODY, 32, "body")                                                                                                \
+    X(PADDING, 33, "padding at the end")                                                                               \
+    X(SECURITY_HEADER, 34, "SecurityHeader")                                                                           \
+    X(MESSAGE_PROPERTIES_HEADER, 35, "MessagePropertiesHeader")
+
+/* UGB_FIELD_SECURITY_FLAGS to UGB_FIELD_MESSAGE_PROPERTIES_HEADER, and UGB_FIELD_NONE where there is none. */
+#define UGB_FIELD_NUMBER(name, number, text) UGB_FIELD_##name = number,
+enum ugb_field_number { UGB_FIELD_NONE = 0, UGB_FIELDS(UGB_FIELD_NUMBER) };
+
+/* What a number is called; "no field" for 0. */
+static inline const char *ugb_field_text(uint32_t number)
+{
+#define UGB_FIELD_TEXT(name, number, text)                                                                             \
+    case number:                                                                                                       \
+        return text;
+    switch (number) {
+    case UGB_FIELD_NONE:
+        return "no field";
+        UGB_FIELDS(UGB_FIELD_TEXT)
+    default:
+        return "unknown field";
+    }
+}
+
+typedef struct ugb_field {
+    uint32_t field; /* one of the numbers above */
+    size_t offset;  /* of the byte in it; 0 where it is a header, or none */
+} ugb_field;
+
+/* What a refusal by reading s is about, or of a record by reading its section: the header for 1, 8 and 7 at place 0;
+ * else what holds the byte at its place, as ugb_field_at says. Other refusals are about no field, and a refused writer
+ * leaves no section to look into. */
+ugb_field ugb_refused_field(const uint8_t *s, size_t s_length, bool security_first, ugb_refusal refusal);
+
+/* What holds the byte at a place of s, as the section's own fixed bytes lay it out, whether it is accepted or refused;
+ * UGB_FIELD_NONE where s or its section has no such byte. */
+static inline ugb_field ugb_field_at(const uint8_t *s, size_t s_length, bool security_first, size_t place)
+{
+    ugb_refusal at = {UGB_ACCEPTED, place};
+    return ugb_refused_field(s, s_length, security_first, at);
+}
+
+/* Puts a text behind the first `at` bytes of an output, as far as there is room for it and a null; gives where it ends,
+ * or would. */
+static inline size_t ugb_put_text(const char *text, size_t at, char *out, size_t out_length)
+{
+    for (; *text != 0; text++, at++)
+        if (at + 1 < out_length)
+            out[at] = *text;
+    return at;
+}
+
+/* So many bytes have room for any field in words. */
+#define UGB_WORDS 64
+
+/* The field in words, as it is read out: "SenderIdSize", "label unit 7"; the units of label and provider name count
+ * from 0. As of snprintf: gives the words' length, cuts what has no room, and ends with a null where there is any. */
+static inline size_t ugb_field_words(ugb_field found, char *out, size_t out_length)
+{
+    char digits[21] = {0}; /* of the unit, up to the last */
+    size_t first = 20, unit = found.offset / 2;
+    size_t length = ugb_put_text(ugb_field_text(found.field), 0, out, out_length);
+    if (found.field == UGB_FIELD_LABEL || found.field == UGB_FIELD_PROVIDER_NAME) {
+        do
+            digits[--first] = (char)('0' + unit % 10);
+        while ((unit /= 10) != 0);
+        length = ugb_put_text(digits + first, ugb_put_text(" unit ", length, out, out_length), out, out_length);
+    }
+    if (out_length > 0)
+        out[length < out_length ? length : out_length - 1] = 0;
+    return length;
+}
 
 /* ---- Writing to a lent output, from its first byte on */
 

@@ -1,5 +1,5 @@
-//! Reads the section in a file and prints its values, or the refusal. Of private parts it prints the lengths
-//! alone.
+//! Reads the section in a file and prints its values, or the refusal and its field. Of private parts it prints
+//! the lengths alone.
 //!
 //! ```text
 //! cargo run --example read_section -- [security] FILE
@@ -11,7 +11,7 @@ use std::env;
 use std::error::Error;
 use std::fs;
 
-use ugbariteyo::{read, First, PropertiesFlags, Reading};
+use ugbariteyo::{read, First, PropertiesFlags, Reading, Refusal};
 
 fn main() -> Result<(), Box<dyn Error>> {
     let args: Vec<String> = env::args().skip(1).collect();
@@ -23,9 +23,18 @@ fn main() -> Result<(), Box<dyn Error>> {
     let input = fs::read(file)?;
     match read(&input, first) {
         Ok(section) => print_section(&section),
-        Err(refusal) => println!("{refusal}"),
+        Err(refusal) => print_refusal(refusal, &input, first),
     }
     Ok(())
+}
+
+fn print_refusal(refusal: Refusal, input: &[u8], first: First) {
+    match (refusal.field(input, first), refusal.kind()) {
+        (Some(field), Some(kind)) => {
+            println!("refused with {} at {} ({field}): {kind}", refusal.number, refusal.place)
+        }
+        _ => println!("{refusal}"),
+    }
 }
 
 fn print_section(section: &Reading<'_>) {

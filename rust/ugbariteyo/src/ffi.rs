@@ -59,12 +59,14 @@ impl<T> Lent<T> for &[T] {
     }
 }
 
+mod field;
 mod queue;
 mod record;
 mod request;
 mod section;
 mod write;
 
+pub(crate) use field::{refused_field, Field};
 pub(crate) use queue::{read_image, write_image, QueueFormat};
 pub(crate) use record::{next_record, Record};
 pub(crate) use request::{defaulted, send, Defaulted};

@@ -28,6 +28,24 @@
 //! # Ok::<(), ugbariteyo::Refusal>(())
 //! ```
 //!
+//! # Which field was refused
+//!
+//! A refusal's place is the first byte of the field that failed, and the field has a name.
+//!
+//! ```
+//! use ugbariteyo::{read, Field, First, Kind};
+//!
+//! let mut input = [0; 72];
+//! input[1] = 8; // LabelLength
+//! input[56..72].fill(b'x'); // a label whose last unit is not zero
+//!
+//! let refusal = read(&input, First::PropertiesHeader).unwrap_err();
+//! assert_eq!((refusal.kind(), refusal.place), (Some(Kind::Label), 70));
+//! let at = refusal.field(&input, First::PropertiesHeader).unwrap();
+//! assert_eq!((at.field, at.unit()), (Field::Label, Some(7)));
+//! assert_eq!(at.to_string(), "label unit 7");
+//! ```
+//!
 //! # A support copy
 //!
 //! The copy holds what is judged and nothing private; it reads to the same summary.
@@ -72,6 +90,7 @@
 
 mod copy;
 mod ffi;
+mod field;
 mod flags;
 mod part;
 mod queue;
@@ -85,6 +104,7 @@ mod text;
 mod write;
 
 pub use copy::{support_copy, support_copy_vec};
+pub use field::{field_at, Field, FieldAt};
 pub use flags::{PropertiesFlags, SecurityFlags};
 pub use part::Part;
 pub use queue::{read_image, write_image, write_image_parts, Image, QueueFormat, Value};

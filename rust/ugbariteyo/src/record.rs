@@ -20,7 +20,7 @@ pub struct Record<'a> {
     pub first: First,
     /// The bytes of its section. What was read of them may be less.
     pub section: &'a [u8],
-    /// What reading the section comes to.
+    /// What reading the section comes to. A refusal's place counts from the section's first byte.
     pub answer: Result<Line, Refusal>,
 }
 

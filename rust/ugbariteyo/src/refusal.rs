@@ -4,12 +4,31 @@ use std::error::Error;
 use std::fmt;
 
 /// Why a call was refused, and where.
+///
+/// The place of a refusal by reading is the offset in the input of what failed; by the section writer, that in the
+/// section that would be written. The MessagePropertiesHeader begins at p.
+///
+/// | number | place |
+/// |---|---|
+/// | 1, 8 | the header's start, 0 or p |
+/// | 2, 3 | 0, Flags |
+/// | 4 | 0, Flags, where DP is clear; else 2, SenderIdSize |
+/// | 5 | 8, SenderCertSize |
+/// | 6 | 2, SenderIdSize |
+/// | 7 | for ProviderInfoSize 0, the header's start; for the provider name its first unit that breaks the rule |
+/// | 9 | p + 1, LabelLength |
+/// | 10 | p + 2, MessageClass |
+/// | 11 | p + 36, AllocationBodySize |
+/// | 12 | the label's first unit that breaks the rule |
+///
+/// By the rule only the last unit is zero. The first zero unit before the last one breaks it; where there is none,
+/// the last one does. [`field`](Self::field) says which field lies there.
 #[derive(Debug, Clone, Copy, PartialEq, Eq, Hash)]
 pub struct Refusal {
     /// The number of the refusal: 1 to 13 or 20 to 33.
     pub number: u32,
-    /// The offset of the header being read, or that would be written. 0 for 13 and 28, for requests and for
-    /// queue formats.
+    /// Where in the input, or in the section that would be written; 0 for 13 and 28, for requests and for queue
+    /// formats.
     pub place: usize,
 }
 

@@ -24,7 +24,7 @@ pub enum First {
 ///
 /// # Errors
 ///
-/// 1 to 12, of the first step that fails, at the place of the header that it looks at.
+/// 1 to 12, of the first step that fails, at the place that [`Refusal`] gives it.
 ///
 /// ```
 /// use ugbariteyo::{read, First};

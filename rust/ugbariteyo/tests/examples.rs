@@ -9,81 +9,19 @@ use ugbariteyo::{
 
 use First::{PropertiesHeader, SecurityHeader};
 
-/// A MessagePropertiesHeader with these numbers and no parts.
-fn properties(label: u8, class: u16, extension: u32, body: u32, allocation: u32) -> Vec<u8> {
-    let mut bytes = vec![0; 56];
-    bytes[1] = label;
-    bytes[2..4].copy_from_slice(&class.to_le_bytes());
-    bytes[32..36].copy_from_slice(&body.to_le_bytes());
-    bytes[36..40].copy_from_slice(&allocation.to_le_bytes());
-    bytes[52..56].copy_from_slice(&extension.to_le_bytes());
-    bytes
-}
+#[path = "given/section.rs"]
+mod given_section;
 
-/// The fixed bytes of a SecurityHeader.
-fn security(flags: u16, sizes: [u16; 3], certificate: u32, provider: u32) -> Vec<u8> {
-    let mut bytes = flags.to_le_bytes().to_vec();
-    for size in sizes {
-        bytes.extend_from_slice(&size.to_le_bytes());
-    }
-    bytes.extend_from_slice(&certificate.to_le_bytes());
-    bytes.extend_from_slice(&provider.to_le_bytes());
-    bytes
-}
+use given_section::{full_section, pattern, properties, refused, security, with_output, FULL_LENGTH};
 
 /// A label of so many units, the null included.
 fn label(units: usize) -> Vec<u8> {
     text_bytes(&"a".repeat(units - 1))
 }
 
-fn refused(kind: Kind, place: usize) -> Refusal {
-    Refusal { number: kind as u32, place }
-}
-
 fn part(start: usize, end: usize) -> Part {
     Part { start, length: end - start }
 }
-
-/// An output that shows every byte written to it.
-fn pattern(length: usize) -> Vec<u8> {
-    (0..length).map(|i| (i * 7 + 0x55) as u8).collect()
-}
-
-/// What `write` leaves in a patterned output of `length` bytes: with an answer, only the bytes it counts may
-/// change.
-fn with_output(
-    length: usize,
-    write: impl FnOnce(&mut [u8]) -> Result<usize, Refusal>,
-) -> Result<Vec<u8>, Refusal> {
-    let mut out = pattern(length);
-    let answer = write(&mut out);
-    let written = answer.unwrap_or(0);
-    assert_eq!(out[written..], pattern(length)[written..]);
-    out.truncate(written);
-    answer.map(|_| out)
-}
-
-/// A section with every part, every private bit set that may be, and bytes behind it.
-fn full_section() -> Vec<u8> {
-    let mut bytes = security(0xF0A1, [12, 3, 5], 2, 10);
-    bytes.extend_from_slice(&[1, 1, 2, 3, 4, 5, 6, 7, 8, 9, 10, 11]);
-    bytes.extend_from_slice(b"key?signe???ce??\x01\0\0\0");
-    bytes.extend_from_slice(&text_bytes("xy"));
-    bytes.extend_from_slice(b"??");
-    let mut header = properties(2, 2, 3, 1, 9);
-    header[0] = 0xFB;
-    header[4..24].fill(0xCC);
-    header[24] = 8;
-    header[28..32].copy_from_slice(&0xDEAD_BEEFu32.to_le_bytes());
-    header[40] = 5;
-    header[44..46].copy_from_slice(&0x800Cu16.to_le_bytes());
-    header[48..50].copy_from_slice(&0x6610u16.to_le_bytes());
-    bytes.extend_from_slice(&header);
-    bytes.extend_from_slice(b"a\0\0\0extB????behind");
-    bytes
-}
-
-const FULL_LENGTH: usize = 56 + 56 + 8;
 
 #[test]
 fn example_1_zero_bytes() {
@@ -127,7 +65,7 @@ fn example_3_longest_label() {
     for class in [0, 0x8008] {
         assert_eq!(
             read(&properties(251, class, 0, 0, 0), PropertiesHeader),
-            Err(refused(Kind::LabelLength, 0))
+            Err(refused(Kind::LabelLength, 1))
         );
     }
 }
@@ -139,7 +77,7 @@ fn example_4_label_of_one_unit() {
     assert_eq!(read(&bytes, PropertiesHeader).unwrap().section_length(), 60);
     assert_eq!(label_shown(&bytes, PropertiesHeader, b"none"), [0, 0]);
     bytes[57] = 1;
-    assert_eq!(read(&bytes, PropertiesHeader), Err(refused(Kind::Label, 0)));
+    assert_eq!(read(&bytes, PropertiesHeader), Err(refused(Kind::Label, 56)));
     assert_eq!(label_shown(&bytes, PropertiesHeader, b"none"), b"none");
     assert_eq!(label_shown(&[0; 56], PropertiesHeader, b"none"), b"none");
 }
@@ -147,7 +85,7 @@ fn example_4_label_of_one_unit() {
 #[test]
 fn example_5_classes() {
     let answer = |class| read(&properties(0, class, 0, 0, 0), PropertiesHeader).map(|s| s.message_class());
-    assert_eq!(answer(0x8008), Err(refused(Kind::Class, 0)));
+    assert_eq!(answer(0x8008), Err(refused(Kind::Class, 2)));
     assert_eq!(answer(0x8009), Ok(0x8009));
     assert_eq!((0..=u16::MAX).filter(|&class| answer(class) == Ok(class)).count(), 19);
 }
@@ -401,7 +339,7 @@ fn identities_by_sender_kind() {
         let mut sid = vec![0xFF; 8 + 4 * k as usize];
         sid[..2].copy_from_slice(&[1, k]);
         let answer =
-            if k < 16 { Ok((part(16, 16 + sid.len()), 1, k)) } else { Err(refused(Kind::Identity, 0)) };
+            if k < 16 { Ok((part(16, 16 + sid.len()), 1, k)) } else { Err(refused(Kind::Identity, 2)) };
         assert_eq!(identity(SecurityFlags::SENDER_SID, &sid), answer);
     }
 }
@@ -462,13 +400,19 @@ fn what_was_read_is_written_again() {
     }
 }
 
+/// Refused with this, and the output is as it stood.
+#[track_caller]
+fn write_refused(values: &SectionValues<'_>, kind: Kind, place: usize) {
+    let answer = with_output(FULL_LENGTH, |out| write_section(values, out));
+    assert_eq!(answer, Err(refused(kind, place)));
+    assert_eq!(write_section_vec(values), Err(refused(kind, place)));
+}
+
 #[test]
-fn refused_writes_leave_the_output_as_it_stood() {
+fn refused_writes_of_a_security_header() {
     let bytes = full_section();
     let good = SectionValues::from(&read(&bytes, SecurityHeader).unwrap());
     let long = vec![0; 65_536];
-    let label = label(251);
-    let p = 56;
     let cases = [
         (SectionValues { encryption_key: &long, message_class: 3, ..good }, Kind::PartTooLarge, 0),
         (SectionValues { signature: &long, ..good }, Kind::PartTooLarge, 0),
@@ -477,33 +421,59 @@ fn refused_writes_leave_the_output_as_it_stood() {
         (SectionValues { security_flags: SecurityFlags(0x0091), ..good }, Kind::AuOrAs, 0),
         (SectionValues { security_flags: SecurityFlags(0x0181), ..good }, Kind::AuOrAs, 0),
         (SectionValues { security_flags: SecurityFlags(0x0001), ..good }, Kind::EmptyOrDpClear, 0),
-        (SectionValues { sender_id: &long[..65_535], ..good }, Kind::Identity, 0),
-        (SectionValues { sender_id: &[1; 8], ..good }, Kind::Identity, 0),
+        (SectionValues { sender_id: &long[..65_535], ..good }, Kind::Identity, 2),
+        (SectionValues { sender_id: &[1; 8], ..good }, Kind::Identity, 2),
         (SectionValues { security_flags: SecurityFlags(0x00C1), ..good }, Kind::Provider, 0),
-        (SectionValues { provider_info: &[1; 10], ..good }, Kind::Provider, 0),
-        (SectionValues { label: &label, ..good }, Kind::LabelLength, p),
-        (SectionValues { label: &[1, 0, 0], message_class: 3, ..good }, Kind::LabelLength, p),
-        (SectionValues { message_class: 0x8008, ..good }, Kind::Class, p),
-        (SectionValues { allocation_body_size: 0, ..good }, Kind::Allocation, p),
-        (SectionValues { allocation_body_size: usize::MAX, ..good }, Kind::Allocation, p),
-        (SectionValues { label: &[1, 0], ..good }, Kind::Label, p),
+        (SectionValues { provider_info: &[1; 9], ..good }, Kind::Provider, 0),
+        (SectionValues { provider_info: &[1; 10], ..good }, Kind::Provider, 52),
+        (SectionValues { provider_info: &[0; 10], ..good }, Kind::Provider, 48),
+        (SectionValues { provider_info: b"typex\0\0\0y\0\0\0", ..good }, Kind::Provider, 50),
+        (SectionValues { encryption_key: b"", provider_info: &[0; 10], ..good }, Kind::Provider, 44),
     ];
     for (values, kind, place) in cases {
-        let answer = with_output(FULL_LENGTH, |out| write_section(&values, out));
-        assert_eq!(answer, Err(refused(kind, place)));
-        assert_eq!(write_section_vec(&values), Err(refused(kind, place)));
+        write_refused(&values, kind, place);
     }
+    for (flags, place) in [(SecurityFlags::DP, 2), (0, 0)] {
+        let security_flags = SecurityFlags(flags);
+        let empty = SectionValues { first: SecurityHeader, security_flags, ..Default::default() };
+        write_refused(&empty, Kind::EmptyOrDpClear, place);
+    }
+}
+
+#[test]
+fn refused_writes_of_a_properties_header() {
+    let bytes = full_section();
+    let good = SectionValues::from(&read(&bytes, SecurityHeader).unwrap());
+    let label = label(251);
+    let cases = [
+        (SectionValues { label: &label, ..good }, Kind::LabelLength, 1),
+        (SectionValues { label: &[1, 0, 0], message_class: 3, ..good }, Kind::LabelLength, 1),
+        (SectionValues { message_class: 0x8008, ..good }, Kind::Class, 2),
+        (SectionValues { allocation_body_size: 0, ..good }, Kind::Allocation, 36),
+        (SectionValues { allocation_body_size: usize::MAX, ..good }, Kind::Allocation, 36),
+        (SectionValues { label: &[1, 0], ..good }, Kind::Label, 56),
+        (SectionValues { label: &[1, 0, 1, 0, 0, 1], ..good }, Kind::Label, 60),
+        (SectionValues { label: &[1, 0, 0, 0, 0, 0, 1, 0], ..good }, Kind::Label, 58),
+    ];
+    for (values, kind, at) in cases {
+        write_refused(&values, kind, 56 + at);
+        write_refused(&SectionValues { encryption_key: b"longer", ..values }, kind, 60 + at);
+        write_refused(&SectionValues { first: PropertiesHeader, ..values }, kind, at);
+    }
+    let key = vec![0; 65_536];
+    let values = SectionValues { encryption_key: &key, ..Default::default() };
+    let written = write_section_vec(&values).unwrap();
+    assert_eq!(written, [0; 56], "without a SecurityHeader its parts are ignored");
+}
+
+#[test]
+fn refused_writes_above_the_limit() {
+    let bytes = full_section();
+    let good = SectionValues::from(&read(&bytes, SecurityHeader).unwrap());
     let huge = vec![0; LIMIT];
-    let values = SectionValues { extension: &huge, ..good };
-    assert_eq!(write_section_vec(&values), Err(refused(Kind::AboveTheLimit, p)));
-    let values = SectionValues { extension: &huge, ..Default::default() };
-    assert_eq!(write_section_vec(&values), Err(refused(Kind::AboveTheLimit, 0)));
-    let values = SectionValues { encryption_key: &long, ..Default::default() };
-    assert_eq!(
-        write_section_vec(&values).unwrap(),
-        [0; 56],
-        "without a SecurityHeader its parts are ignored"
-    );
+    write_refused(&SectionValues { provider_info: &huge, ..good }, Kind::AboveTheLimit, 0);
+    write_refused(&SectionValues { extension: &huge, ..good }, Kind::AboveTheLimit, 56);
+    write_refused(&SectionValues { extension: &huge, ..Default::default() }, Kind::AboveTheLimit, 0);
 }
 
 #[test]

@@ -1,10 +1,12 @@
-//! One name, number and text for each refusal, and one version: in Rattle, in C, in the README and here.
+//! One name, number and text for each refusal and each field, and one version: in Rattle, in C and here; of the
+//! refusals in the README too.
 
+use std::fmt::Debug;
 use std::fs;
 
-use ugbariteyo::Kind;
+use ugbariteyo::{Field, Kind};
 
-/// A refusal's number, its name as in Rattle, and its text.
+/// A number, its name as in Rattle, and its text.
 type Row = (u32, String, String);
 
 /// A text file of the repository.
@@ -32,16 +34,16 @@ fn in_rattle(name: &str) -> String {
     name.char_indices().flat_map(letter).collect()
 }
 
-fn here() -> Vec<Row> {
-    Kind::ALL.iter().map(|&kind| (kind as u32, in_rattle(&format!("{kind:?}")), kind.text().into())).collect()
+fn here(number: u32, name: impl Debug, text: &str) -> Row {
+    (number, in_rattle(&format!("{name:?}")), text.into())
 }
 
-/// The rows `X(NAME, number, "text")` of the header's table.
-fn in_the_header() -> Vec<Row> {
+/// The rows `X(NAME, number, "text")` of a table of the header's.
+fn in_the_header(table: &str) -> Vec<Row> {
     let header = file("include/ugbariteyo.h").replace("\\\n", "");
-    let rows = between(&header, "#define UGB_REFUSALS(X)", "\n").split("X(").skip(1);
-    rows.map(|refusal| {
-        let mut values = refusal.splitn(3, ',');
+    let rows = between(&header, &format!("#define {table}(X)"), "\n").split("X(").skip(1);
+    rows.map(|given| {
+        let mut values = given.splitn(3, ',');
         let mut next = || values.next().expect("three values");
         let (name, number) = (next(), next());
         row(number, name, between(next(), "\"", "\""))
@@ -64,25 +66,37 @@ fn in_the_readme() -> Vec<Row> {
         .collect()
 }
 
-/// The lines `pub const NAME: u32 = number;`, but for the number of no refusal.
-fn in_the_rules() -> Vec<(u32, String)> {
-    let rules = file("crates/rules/src/refusal.rt");
-    let constants = rules.lines().filter_map(|line| line.strip_prefix("pub const ")?.strip_suffix(';'));
+/// The lines `pub const NAME: u32 = number;` of a file, but for the number of none.
+fn in_the_file(name: &str) -> Vec<(u32, String)> {
+    let source = file(name);
+    let constants = source.lines().filter_map(|line| line.strip_prefix("pub const ")?.strip_suffix(';'));
     constants
         .map(|constant| {
-            let (name, number) = constant.split_once(": u32 = ").expect("a refusal's number");
+            let (name, number) = constant.split_once(": u32 = ").expect("a name and a number");
             (number.parse().expect("a number"), name.into())
         })
         .filter(|(number, _)| *number != 0)
         .collect()
 }
 
+/// The numbers and names of rows.
+fn names(rows: Vec<Row>) -> Vec<(u32, String)> {
+    rows.into_iter().map(|(number, name, _)| (number, name)).collect()
+}
+
 #[test]
 fn refusals_are_called_alike_everywhere() {
-    assert_eq!(in_the_header(), here());
-    assert_eq!(in_the_readme(), here());
-    let names: Vec<_> = here().into_iter().map(|(number, name, _)| (number, name)).collect();
-    assert_eq!(in_the_rules(), names);
+    let rows: Vec<Row> = Kind::ALL.iter().map(|&kind| here(kind as u32, kind, kind.text())).collect();
+    assert_eq!(in_the_header("UGB_REFUSALS"), rows);
+    assert_eq!(in_the_readme(), rows);
+    assert_eq!(in_the_file("crates/rules/src/refusal.rt"), names(rows));
+}
+
+#[test]
+fn fields_are_called_alike_everywhere() {
+    let rows: Vec<Row> = Field::ALL.iter().map(|&field| here(field as u32, field, field.text())).collect();
+    assert_eq!(in_the_header("UGB_FIELDS"), rows);
+    assert_eq!(in_the_file("crates/fields/src/field.rt"), names(rows));
 }
 
 #[test]

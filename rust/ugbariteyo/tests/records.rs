@@ -9,6 +9,11 @@ use ugbariteyo::{next_record, read, records, First, Next, Refusal, Stop};
 #[path = "../examples/list_day.rs"]
 mod list_day;
 
+#[path = "given/record.rs"]
+mod given_record;
+
+use given_record::record;
+
 /// A file of the repository.
 fn file(name: &str) -> Vec<u8> {
     fs::read(format!("{}/../../{name}", env!("CARGO_MANIFEST_DIR"))).expect("the file is in the repository")
@@ -20,12 +25,6 @@ fn listed(file: &[u8]) -> String {
     String::from_utf8(lines).expect("letters and digits")
 }
 
-/// A record of this section.
-fn record(first: u8, section: &[u8]) -> Vec<u8> {
-    let length = (section.len() as u32).to_le_bytes();
-    [&[0x57, 0x52, first, 0], &length[..], section].concat()
-}
-
 #[test]
 fn the_example_lists_as_the_listing_program() {
     assert_eq!(listed(&file("crates/listing/stdin")).as_bytes(), file("crates/listing/stdout"));
@@ -34,8 +33,8 @@ no answer class label ext body total\n\
 0 ok 0 9 5 8 156\n\
 1 ok 0 8 0 2 76\n\
 2 ok 32777 0 0 0 56\n\
-3 refused 9 0\n\
-4 refused 10 68\n\
+3 refused 9 1\n\
+4 refused 10 70\n\
 5 ok 0 14 0 4 88\n\
 end 6\n";
     assert_eq!(listed(&file("samples/day.bin")), sample);
@@ -62,7 +61,7 @@ fn a_record_holds_its_section() {
         );
     }
     assert_eq!(found[0].answer.unwrap().section_length, 56, "bytes behind a section are not read");
-    assert_eq!((found[2].size, found[2].answer), (64, Err(Refusal { number: 9, place: 0 })));
+    assert_eq!((found[2].size, found[2].answer), (64, Err(Refusal { number: 9, place: 1 })));
     assert_eq!(found.len(), 3);
     assert!(!format!("{:?}", found[1]).contains("107"), "no byte of a section is shown");
 }

@@ -2,24 +2,7 @@
  * answers; each member of each struct has a value of its own somewhere, so that a member at a wrong offset shows. */
 #include "check.h"
 
-/* ---- what most checks use */
-
 static const uint8_t no_bytes[1];
-static void put(size_t at, unsigned width, uint32_t number)
-{
-    for (unsigned i = 0; i < width; i++)
-        input[at + i] = (uint8_t)(number >> (8 * i));
-}
-
-/* A MessagePropertiesHeader at p, with that label and no other part. */
-static void put_properties(size_t p, uint8_t units, uint16_t class)
-{
-    memset(input + p, 0, 1024);
-    put(p + 1, 1, units);
-    put(p + 2, 2, class);
-    for (unsigned i = 0; i + 1 < units; i++)
-        put(p + 56 + 2 * i, 2, 'a');
-}
 
 /* ---- a section that has everything, written and read back */
 
@@ -50,9 +33,9 @@ static const uint8_t body[10] = {0x71, 0x72, 0x73, 0x74, 0x75, 0x76, 0x77, 0x78,
 /* Its SecurityHeader is 16 + 8 + 4 + 8 + 8 + 8 bytes long; behind it 56 + 6 + 9 + 10, padded. */
 enum { PROPERTIES_AT = 52, SECTION_LENGTH = 136 };
 
-static ugb_output write_whole(ugb_section_values v, size_t certificate_length, size_t room)
+static ugb_section_parts whole_parts(size_t certificate_length)
 {
-    const ugb_section_parts parts = {
+    return (ugb_section_parts){
         .sender_id = BYTES(identity),
         .encryption_key = BYTES(key),
         .signature = BYTES(signature),
@@ -62,6 +45,11 @@ static ugb_output write_whole(ugb_section_values v, size_t certificate_length, s
         .extension = BYTES(extension),
         .body = BYTES(body),
     };
+}
+
+static ugb_output write_whole(ugb_section_values v, size_t certificate_length, size_t room)
+{
+    const ugb_section_parts parts = whole_parts(certificate_length);
     return ugb_write_section(&v, &parts, out, room);
 }
 
@@ -219,12 +207,53 @@ static void check_writer_refuses(void)
     refused(write_whole(v, 65536, sizeof out), UGB_PART_TOO_LARGE, 0);
     v.security_flags = 0x0083;
     refused(write_whole(v, sizeof certificate, sizeof out), UGB_SENDER_KIND, 0);
+    v.security_flags = 0x0091;
+    refused(write_whole(v, sizeof certificate, sizeof out), UGB_AU_OR_AS, 0);
+    v.security_flags = 0x0021;
+    refused(write_whole(v, sizeof certificate, sizeof out), UGB_EMPTY_OR_DP_CLEAR, 0);
     v = values;
     v.message_class = 0x8008;
-    refused(write_whole(v, sizeof certificate, sizeof out), UGB_CLASS, PROPERTIES_AT);
+    refused(write_whole(v, sizeof certificate, sizeof out), UGB_CLASS, PROPERTIES_AT + 2);
     v = values;
     v.allocation_body_size = sizeof body - 1;
-    refused(write_whole(v, sizeof certificate, sizeof out), UGB_ALLOCATION, PROPERTIES_AT);
+    refused(write_whole(v, sizeof certificate, sizeof out), UGB_ALLOCATION, PROPERTIES_AT + 36);
+}
+
+static void part_refused(ugb_section_parts parts, uint32_t number, size_t place)
+{
+    pattern();
+    refused(ugb_write_section(&values, &parts, out, sizeof out), number, place);
+}
+
+/* Each part wrong by itself; the provider info is written at 44. */
+static void check_writer_refuses_parts(void)
+{
+    static const uint8_t unended[8] = {1, 0, 0, 0, 'p', 0, 'q', 0}, zeros[502];
+    const ugb_section_parts whole = whole_parts(sizeof certificate), none = {0};
+    ugb_section_parts parts = whole;
+    part_refused(none, UGB_EMPTY_OR_DP_CLEAR, 2);
+    parts.sender_id.length = 7;
+    part_refused(parts, UGB_IDENTITY, 2);
+    parts.sender_id = (ugb_bytes){zeros, 8};
+    part_refused(parts, UGB_IDENTITY, 2);
+    parts = whole, parts.provider_info.length = 7;
+    part_refused(parts, UGB_PROVIDER, 0);
+    parts.provider_info = (ugb_bytes)BYTES(unended);
+    part_refused(parts, UGB_PROVIDER, 50);
+    parts.provider_info = (ugb_bytes){zeros, 8};
+    part_refused(parts, UGB_PROVIDER, 48);
+    parts.provider_info = (ugb_bytes)BYTES(input);
+    part_refused(parts, UGB_ABOVE_THE_LIMIT, 0);
+    parts = whole, parts.label = (ugb_bytes)BYTES(zeros);
+    part_refused(parts, UGB_LABEL_LENGTH, PROPERTIES_AT + 1);
+    parts.label = (ugb_bytes){label, 5};
+    part_refused(parts, UGB_LABEL_LENGTH, PROPERTIES_AT + 1);
+    parts.label = (ugb_bytes){label, 4};
+    part_refused(parts, UGB_LABEL, PROPERTIES_AT + 58);
+    parts.label = (ugb_bytes){zeros, 6};
+    part_refused(parts, UGB_LABEL, PROPERTIES_AT + 56);
+    parts = whole, parts.extension = (ugb_bytes)BYTES(input);
+    part_refused(parts, UGB_ABOVE_THE_LIMIT, PROPERTIES_AT);
 }
 
 /* ---- 01's examples */
@@ -269,12 +298,12 @@ static void check_properties_examples(void)
     put_properties(0, 250, 0);
     length_is(556, false, 556);
     put_properties(0, 251, 0x8008);
-    reading_refused(1024, false, UGB_LABEL_LENGTH, 0);
+    reading_refused(1024, false, UGB_LABEL_LENGTH, 1);
     put_properties(0, 1, 0);
     length_is(60, false, 60);
     same_part(ugb_label_shown(input, 60, false).part, 56, 2);
     put_properties(0, 0, 0x8008);
-    reading_refused(56, false, UGB_CLASS, 0);
+    reading_refused(56, false, UGB_CLASS, 2);
     put_properties(0, 0, 0x8009);
     length_is(56, false, 56);
     put(32, 4, 4194248);
@@ -283,19 +312,6 @@ static void check_properties_examples(void)
     put(32, 4, 4194249);
     put(36, 4, 4194249);
     reading_refused(56, false, UGB_ABOVE_THE_LIMIT, 0);
-}
-
-/* A SecurityHeader with these sizes and zero content, and a MessagePropertiesHeader behind its length. */
-static void put_security(uint16_t flags, const uint32_t sizes[5], size_t length)
-{
-    memset(input, 0, 1024);
-    put(0, 2, flags);
-    put(2, 2, sizes[0]);
-    put(4, 2, sizes[1]);
-    put(6, 2, sizes[2]);
-    put(8, 4, sizes[3]);
-    put(12, 4, sizes[4]);
-    put_properties(length, 0, 0);
 }
 
 /* 7 to 9 */
@@ -388,6 +404,8 @@ static void check_null(void)
     same_refusal(reading.refusal, UGB_INPUT_SHORT, 0);
     same_refusal(ugb_summarize(NULL, 0, false).refusal, UGB_INPUT_SHORT, 0);
     same_refusal(ugb_read_image(NULL, 0).refusal, UGB_INPUT_SHORT, 0);
+    SAME(ugb_refused_field(NULL, 0, true, reading.refusal).field, UGB_FIELD_SECURITY_HEADER);
+    SAME(ugb_field_at(NULL, 0, true, 0).field, UGB_FIELD_NONE);
     SAME(ugb_label_shown(NULL, 0, false).stand_in, true);
     SAME(ugb_same_summary(NULL, 0, NULL, 0, false), false);
     pattern();
@@ -421,6 +439,7 @@ int main(void)
     check_verdicts();
     check_retired();
     check_writer_refuses();
+    check_writer_refuses_parts();
     check_properties_examples();
     check_security_examples();
     check_images();

@@ -1,4 +1,5 @@
-/* What the C tests share: comparisons that end the program at the first that fails, and an output with a pattern. */
+/* What the C tests share: comparisons that end the program at the first that fails, headers put into an input, and an
+ * output with a pattern. */
 #include <stdio.h>
 #include <stdlib.h>
 #include <string.h>
@@ -23,6 +24,35 @@ static inline void same(size_t found, size_t wanted, const char *what, int line)
 static const uint8_t correlation_id[20] = {1, 2, 3, 4, 5, 6, 7, 8, 9, 10, 11, 12, 13, 14, 15, 16, 17, 18, 19, 20};
 static uint8_t input[UGB_LIMIT];
 static uint8_t out[1024];
+
+static inline void put(size_t at, unsigned width, uint32_t number)
+{
+    for (unsigned i = 0; i < width; i++)
+        input[at + i] = (uint8_t)(number >> (8 * i));
+}
+
+/* A MessagePropertiesHeader at p, with that label and no other part. */
+static inline void put_properties(size_t p, uint8_t units, uint16_t class)
+{
+    memset(input + p, 0, 1024);
+    put(p + 1, 1, units);
+    put(p + 2, 2, class);
+    for (unsigned i = 0; i + 1 < units; i++)
+        put(p + 56 + 2 * i, 2, 'a');
+}
+
+/* A SecurityHeader with these sizes and zero content, and a MessagePropertiesHeader behind its length. */
+static inline void put_security(uint16_t flags, const uint32_t sizes[5], size_t length)
+{
+    memset(input, 0, 1024);
+    put(0, 2, flags);
+    put(2, 2, sizes[0]);
+    put(4, 2, sizes[1]);
+    put(6, 2, sizes[2]);
+    put(8, 4, sizes[3]);
+    put(12, 4, sizes[4]);
+    put_properties(length, 0, 0);
+}
 
 static inline void pattern(void)
 {

@@ -44,7 +44,7 @@ static void check_found(void)
     SAME(record.section_length, 72);
 
     record = found(put_record(8, 0));
-    same_refusal(record.refusal, UGB_CLASS, 0);
+    same_refusal(record.refusal, UGB_CLASS, 2);
     RECORD_VALUES(ZERO, record)
 
     put_record(9, 24); /* a SecurityHeader with a key of one byte first: 16 and 4 */
@@ -60,7 +60,7 @@ static void check_found(void)
     SAME(record.section_length, 92);
     input[8 + 20 + 2] = 8;
     record = found(100);
-    same_refusal(record.refusal, UGB_CLASS, 20);
+    same_refusal(record.refusal, UGB_CLASS, 20 + 2);
     RECORD_VALUES(ZERO, record)
 }
 

@@ -20,11 +20,20 @@ static void refill(FILE *file)
     end += fread(buffer + end, 1, sizeof buffer - end, file);
 }
 
+/* The place of a refusal counts from the section's first byte. */
+static void print_refusal(unsigned long number, ugb_record record)
+{
+    char words[UGB_WORDS];
+    ugb_bytes section = ugb_bytes_of(record.section, buffer + at);
+    ugb_field_words(ugb_refused_field(UGB_BYTES(section), record.security_first, record.refusal), words, sizeof words);
+    printf("%lu refused %u at %zu (%s): %s\n", number, (unsigned)record.refusal.number, record.refusal.place, words,
+           ugb_refusal_text(record.refusal.number));
+}
+
 static void print_record(unsigned long number, ugb_record record)
 {
     if (record.refusal.number != UGB_ACCEPTED)
-        printf("%lu refused %u at %zu: %s\n", number, (unsigned)record.refusal.number, record.refusal.place,
-               ugb_refusal_text(record.refusal.number));
+        print_refusal(number, record);
     else
         printf("%lu class 0x%04x, label of %u units, extension of %zu bytes, body of %zu, section of %zu\n", number,
                record.message_class, (unsigned)record.label_length, record.extension_size, record.message_size,

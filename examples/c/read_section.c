@@ -1,5 +1,5 @@
-/* Reads the section in a file and prints what it carries, or the refusal. `read_section FILE [security]`: the second
- * word says that a SecurityHeader stands first. */
+/* Reads the section in a file and prints what it carries, or the refusal and its field. `read_section FILE [security]`:
+ * the second word says that a SecurityHeader stands first. */
 #include <stdio.h>
 
 #include "ugbariteyo.h"
@@ -23,7 +23,10 @@ int main(int argc, char **argv)
 
     ugb_summarized answer = ugb_summarize(input, length, argc > 2);
     if (answer.refusal.number != UGB_ACCEPTED) {
-        printf("refused %u at %zu\n", (unsigned)answer.refusal.number, answer.refusal.place);
+        char words[UGB_WORDS];
+        ugb_field_words(ugb_refused_field(input, length, argc > 2, answer.refusal), words, sizeof words);
+        printf("refused %u at %zu (%s): %s\n", (unsigned)answer.refusal.number, answer.refusal.place, words,
+               ugb_refusal_text(answer.refusal.number));
         return 1;
     }
     ugb_summary section = answer.summary;

@@ -334,12 +334,11 @@ static inline ugb_field ugb_field_at(const uint8_t *s, size_t s_length, bool sec
     return ugb_refused_field(s, s_length, security_first, at);
 }
 
-/* Puts a text behind the first `at` bytes of an output, as far as there is room for it and a null; gives where it ends,
- * or would. */
+/* Puts a text behind the first `at` bytes of an output, as far as there is room; gives where it ends, or would. */
 static inline size_t ugb_put_text(const char *text, size_t at, char *out, size_t out_length)
 {
     for (; *text != 0; text++, at++)
-        if (at + 1 < out_length)
+        if (at < out_length)
             out[at] = *text;
     return at;
 }

@@ -139,6 +139,7 @@ static void check_fields(void)
     for (; at < length + 8; at++)
         same_field(ugb_field_at(input, length + 6, true, at), UGB_FIELD_NONE, 0);
     same_field(ugb_field_at(input + p, length, false, length - p), UGB_FIELD_NONE, 0);
+    same_field(ugb_field_at(input, length, true, (size_t)1 << 32), UGB_FIELD_NONE, 0);
     same_field(ugb_field_at(input, length, true, SIZE_MAX), UGB_FIELD_NONE, 0);
     same_field(ugb_field_at(input + p, length, false, SIZE_MAX), UGB_FIELD_NONE, 0);
 }
@@ -148,7 +149,11 @@ static void words_are(uint32_t field, size_t offset, const char *words)
 {
     const ugb_field found = {field, offset};
     const size_t length = strlen(words);
+    SAME(length < UGB_WORDS, true);
     SAME(ugb_field_words(found, NULL, 0), length);
+    pattern();
+    SAME(ugb_field_words(found, (char *)out + 1, 0), length);
+    untouched_from(0);
     for (size_t room = 1; room <= UGB_WORDS; room++) {
         size_t kept = room <= length ? room - 1 : length;
         pattern();

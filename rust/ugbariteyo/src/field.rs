@@ -127,7 +127,8 @@ impl Refusal {
     /// What a refusal by reading `input` is about, or of a record by reading its section: the header for 1, 8 and
     /// 7 at place 0; else what [`field_at`] finds at its place.
     ///
-    /// Other refusals are about no field, and a refused writer leaves no section to look into.
+    /// That is for 1 to 12: of a higher number, which is about no field, it is what lies at 0; and a refused writer
+    /// leaves no section to look into.
     pub fn field(self, input: &[u8], first: First) -> Option<FieldAt> {
         FieldAt::new(&ffi::refused_field(input, first, self.number, self.place))
     }

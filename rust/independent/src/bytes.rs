@@ -24,6 +24,14 @@ pub(crate) fn only_last_is_zero(units: &[u8]) -> bool {
     *last == [0, 0] && !before.chunks_exact(2).fold(false, |zero, unit| zero | (u16_at(unit, 0) == 0))
 }
 
+/// Where the first unit stands in `units` that breaks the rule of [`only_last_is_zero`]: "the first zero
+/// unit before the last one; where there is none, the last unit". For units that break it.
+pub(crate) fn breaking_unit(units: &[u8]) -> u64 {
+    let last = units.len().saturating_sub(2);
+    let zero = units[..last].chunks_exact(2).position(|unit| unit == [0, 0]);
+    zero.map_or(last, |before| 2 * before) as u64
+}
+
 /// Writes `units` to the start of `out`, as many as it has room for.
 pub(crate) fn put_units(units: &[u16], out: &mut [u8]) {
     for (two, unit) in out.chunks_exact_mut(2).zip(units) {

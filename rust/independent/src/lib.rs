@@ -8,15 +8,18 @@
 //! - [`read`], [`support_copy`], [`same_summary`], [`label_shown`]: sections read and copied.
 //! - [`mod@write`]: sections written from values and parts.
 //! - [`queue`]: queue format images, [`request`]: send requests, [`listing`]: day files, [`copies`]: their copies.
+//! - [`field`]: the field or part that a place lies in.
 //! - [`generate`]: cases made at random for a comparison; [`neighbours`]: what steps a case breaks
-//!   together; [`planted`]: wrong versions that a comparison has to find.
+//!   together; [`cause`]: which one refuses it; [`planted`]: wrong versions that a comparison has to find.
 
 #![forbid(unsafe_code)]
 #![warn(missing_docs)]
 
 mod bytes;
+pub mod cause;
 pub mod copies;
 mod copy;
+pub mod field;
 pub mod generate;
 pub mod listing;
 mod lists;

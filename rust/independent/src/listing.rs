@@ -58,18 +58,18 @@ pub enum Next {
 /// The first record of `rest`, all the bytes that are left of a day file. [`RECORD_MOST`] of them are
 /// enough.
 pub fn next_record(rest: &[u8]) -> Next {
-    next_by(&RECORD, rest)
+    next_by(&RECORD, answer, rest)
 }
 
-/// [`next_record`] by the tests of `order`.
+/// [`next_record`] by the tests of `order`, with the section's line made by `read`.
 #[inline(always)]
-pub(crate) fn next_by(order: &[RecordStep], rest: &[u8]) -> Next {
+pub(crate) fn next_by(order: &[RecordStep], read: impl Fn(&[u8], bool) -> Answer, rest: &[u8]) -> Next {
     if let Some(step) = first_failure(order, rest) {
         return step.answer;
     }
     let (head, behind) = rest.split_at(HEAD);
     let length = u32_at(head, 4) as usize;
-    Next::Record { size: HEAD + length, answer: answer(&behind[..length], head[2] == 1) }
+    Next::Record { size: HEAD + length, answer: read(&behind[..length], head[2] == 1) }
 }
 
 /// A test of what is left of a day file; it answers with what ends the listing.
@@ -112,7 +112,7 @@ impl Judged for [u8] {
 }
 
 /// Reads one record's section.
-fn answer(section: &[u8], security_first: bool) -> Answer {
+pub(crate) fn answer(section: &[u8], security_first: bool) -> Answer {
     let summary = read(section, security_first)?.summary;
     Ok(Line {
         class: summary.properties.class,
@@ -171,13 +171,14 @@ fn push_decimal(lines: &mut Vec<u8>, mut number: u64) {
 /// the number of records, or `stop` and the number of the record that is wrong or cut. Its memory
 /// does not depend on the file.
 pub fn list(input: impl Read, output: impl Write) -> io::Result<()> {
-    list_by(&RECORD, push_line, input, output)
+    list_by(&RECORD, answer, push_line, input, output)
 }
 
-/// [`list`] by the tests of `order`, with the lines made by `push`.
+/// [`list`] by the tests of `order`, with the sections read by `read` and their lines added by `push`.
 #[inline(always)]
 pub(crate) fn list_by(
     order: &[RecordStep],
+    read: impl Fn(&[u8], bool) -> Answer,
     push: impl Fn(&mut Vec<u8>, u64, &Answer),
     input: impl Read,
     mut output: impl Write,
@@ -187,7 +188,7 @@ pub(crate) fn list_by(
     lines.extend_from_slice(HEADER.as_bytes());
     let mut number = 0;
     let last = loop {
-        match next_by(order, window.rest()?) {
+        match next_by(order, &read, window.rest()?) {
             Next::End => break "end ",
             Next::Stop => break "stop ",
             Next::Record { size, answer } => {

@@ -1,6 +1,14 @@
 //! Wrong versions that a comparison has to find: for each kind one or two plain functions with their
 //! answer or their output changed a little, and every function with two neighbouring steps of its
-//! list exchanged.
+//! list exchanged. What C-17 says of places has its wrong versions in files of their own.
+
+mod fields;
+mod places;
+
+pub use fields::{field_of, WrongField};
+pub use places::{
+    copy_day_at_headers, list_placed, read_placed, support_copy_placed, write_placed, WrongPlace,
+};
 
 use std::io::{self, Read, Write};
 
@@ -33,7 +41,7 @@ pub fn read(input: &[u8], security_first: bool) -> Result<Section<'_>, Refusal> 
 /// Reads with the class `extra` let through, which 01 does not list; so do the next two.
 pub fn read_class(extra: u16, input: &[u8], security_first: bool) -> Result<Section<'_>, Refusal> {
     match crate::read(input, security_first) {
-        Err(Refusal { number: number::CLASS, place }) if input[place + 2..][..2] == extra.to_le_bytes() => {
+        Err(Refusal { number: number::CLASS, place }) if input[place..][..2] == extra.to_le_bytes() => {
             read_by(&without_class(&READING), input, security_first, ENDLESS)
         }
         answer => answer,
@@ -378,7 +386,7 @@ pub fn send_exchanged(at: usize, request: &Request<'_>, out: &mut [u8]) -> Resul
 
 /// Lists with two tests before a record exchanged.
 pub fn list_exchanged(at: usize, input: impl Read, output: impl Write) -> io::Result<()> {
-    listing::list_by(&exchanged(RECORD, at), listing::push_line, input, output)
+    listing::list_by(&exchanged(RECORD, at), listing::answer, listing::push_line, input, output)
 }
 
 /// The tests of a record's head without which a record can still be read.
@@ -388,7 +396,7 @@ pub const HEAD_TESTS: [&str; 4] = ["mark", "security byte", "zero byte", "length
 pub fn list_without(test: &str, input: impl Read, output: impl Write) -> io::Result<()> {
     let mut order = RECORD.to_vec();
     order.retain(|step| step.name != test);
-    listing::list_by(&order, listing::push_line, input, output)
+    listing::list_by(&order, listing::answer, listing::push_line, input, output)
 }
 
 /// Gives the label's bytes where its 16-bit units have to stand.
@@ -401,7 +409,7 @@ pub fn list(input: impl Read, output: impl Write) -> io::Result<()> {
     let push = |lines: &mut Vec<u8>, number: u64, answer: &Answer| {
         listing::push_line(lines, number, &label_in_bytes(answer));
     };
-    listing::list_by(&RECORD, push, input, output)
+    listing::list_by(&RECORD, listing::answer, push, input, output)
 }
 
 fn label_in_bytes(answer: &Answer) -> Answer {

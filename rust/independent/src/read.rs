@@ -10,7 +10,7 @@ use crate::steps::{Headers, PropertiesHeader, SectionStep, SecurityHeader, ENDLE
 use crate::Refusal;
 
 /// Reads the section at the start of `input`; bytes behind it are not looked at. "The first step
-/// that fails gives the refusal. Its place is the offset of the header being read."
+/// that fails gives the refusal", and its place is "the first byte of the field that failed" (C-17).
 pub fn read(input: &[u8], security_first: bool) -> Result<Section<'_>, Refusal> {
     read_by(&READING, input, security_first, ENDLESS)
 }

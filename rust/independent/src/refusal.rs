@@ -5,8 +5,8 @@
 pub struct Refusal {
     /// One of the numbers in [`number`].
     pub number: u32,
-    /// The offset of the header that was being read or would be written; 0 for all but the S and P
-    /// steps outside requests.
+    /// The first byte of the field that failed, in the section that was being read or would be written
+    /// (C-17); 0 for all but the S and P steps outside requests.
     pub place: usize,
 }
 

@@ -1,6 +1,6 @@
 //! The steps of a section, read or to be written: S1 to S11, P1 to P7, 28 and 13.
 
-use crate::bytes::{only_last_is_zero, padded};
+use crate::bytes::{breaking_unit, only_last_is_zero, padded};
 use crate::lists::class_is_listed;
 use crate::order::{first_failure, Judged, Step};
 use crate::section::{Part, Parts, SecurityFlags, LABEL_MOST, LIMIT, PROPERTIES_FIXED, SECURITY_FIXED};
@@ -10,65 +10,118 @@ use crate::{number, Refusal};
 const PART_MOST: u64 = 65_535;
 /// The most bytes of a label.
 pub(crate) const LABEL_BYTES_MOST: usize = 2 * LABEL_MOST as usize;
+/// The bytes of the provider's type, before its name.
+pub(crate) const PROVIDER_TYPE: usize = 4;
 /// The bytes of an input or an output that no step finds short: there is none.
 pub(crate) const ENDLESS: usize = usize::MAX;
 
 /// A step of a section; it answers with the refusal's number.
 pub(crate) type SectionStep = Step<Test, u32>;
 
-/// The header that a step looks at. Its offset is the refusal's place.
+/// What is asked of a SecurityHeader, and of a MessagePropertiesHeader.
+type OfSecurity<T> = fn(&SecurityHeader<'_>) -> T;
+type OfProperties<T> = fn(&PropertiesHeader<'_>) -> T;
+
+/// The header that a step looks at: whether the step fails, and the place of its refusal in the section.
 #[derive(Clone, Copy)]
 pub(crate) enum Test {
     /// The SecurityHeader; the step passes where there is none.
-    Security(fn(&SecurityHeader<'_>) -> bool),
+    Security { place: OfSecurity<u64>, fails: OfSecurity<bool> },
     /// The MessagePropertiesHeader.
-    Properties(fn(&PropertiesHeader<'_>) -> bool),
+    Properties { place: OfProperties<u64>, fails: OfProperties<bool> },
     /// 13: the lent output is shorter than the section. Its place is 0.
     Output,
 }
 
-const fn security(name: &'static str, number: u32, fails: fn(&SecurityHeader<'_>) -> bool) -> SectionStep {
-    Step { name, answer: number, test: Test::Security(fails) }
+const fn security(
+    name: &'static str,
+    number: u32,
+    place: OfSecurity<u64>,
+    fails: OfSecurity<bool>,
+) -> SectionStep {
+    Step { name, answer: number, test: Test::Security { place, fails } }
 }
 
 const fn properties(
     name: &'static str,
     number: u32,
-    fails: fn(&PropertiesHeader<'_>) -> bool,
+    place: OfProperties<u64>,
+    fails: OfProperties<bool>,
 ) -> SectionStep {
-    Step { name, answer: number, test: Test::Properties(fails) }
+    Step { name, answer: number, test: Test::Properties { place, fails } }
 }
 
-const S1: SectionStep = security("S1", number::INPUT_SHORT, |h| h.input < SECURITY_FIXED);
-const S2: SectionStep = security("S2", number::SENDER_KIND, |h| h.flags.sender_kind() > 2);
-const S3: SectionStep =
-    security("S3", number::AUTHENTICATED, |h| h.flags.authenticated() || h.flags.signature_kind() != 0);
-const S4: SectionStep = security("S4", number::EMPTY, |h| h.is_empty() || !h.flags.data_present());
-const S5: SectionStep = security("S5", number::CERTIFICATE, |h| h.certificate > PART_MOST);
-const S6: SectionStep =
-    security("S6", number::IDENTITY, |h| !identity_size_fits(h.flags.sender_kind(), h.identity));
-const S7: SectionStep = security("S7", number::PROVIDER, |h| !h.provider_size_fits());
-const S8: SectionStep = security("S8", number::LIMIT, |h| h.length() > LIMIT);
-const S9: SectionStep = security("S9", number::INPUT_SHORT, |h| h.length() > h.input as u64);
-const S10: SectionStep =
-    security("S10", number::IDENTITY, |h| identity_begins_wrong(h.flags.sender_kind(), h.identity_bytes));
-const S11: SectionStep = security("S11", number::PROVIDER, |h| {
-    h.provider_info.get(4..).is_some_and(|name| !only_last_is_zero(name))
-});
+/// Places in a SecurityHeader, which stands at 0: its start, and the first bytes of fields that fail.
+const START: u64 = 0;
+const FLAGS: u64 = 0;
+const SENDER_ID_SIZE: u64 = 2;
+const SENDER_CERT_SIZE: u64 = 8;
+
+const S1: SectionStep = security("S1", number::INPUT_SHORT, |_| START, |h| h.input < SECURITY_FIXED);
+const S2: SectionStep = security("S2", number::SENDER_KIND, |_| FLAGS, |h| h.flags.sender_kind() > 2);
+const S3: SectionStep = security(
+    "S3",
+    number::AUTHENTICATED,
+    |_| FLAGS,
+    |h| h.flags.authenticated() || h.flags.signature_kind() != 0,
+);
+const S4: SectionStep = security(
+    "S4",
+    number::EMPTY,
+    |h| if h.flags.data_present() { SENDER_ID_SIZE } else { FLAGS },
+    |h| h.is_empty() || !h.flags.data_present(),
+);
+const S5: SectionStep =
+    security("S5", number::CERTIFICATE, |_| SENDER_CERT_SIZE, |h| h.certificate > PART_MOST);
+const S6: SectionStep = security(
+    "S6",
+    number::IDENTITY,
+    |_| SENDER_ID_SIZE,
+    |h| !identity_size_fits(h.flags.sender_kind(), h.identity),
+);
+const S7: SectionStep = security("S7", number::PROVIDER, |_| START, |h| !h.provider_size_fits());
+const S8: SectionStep = security("S8", number::LIMIT, |_| START, |h| h.length() > LIMIT);
+const S9: SectionStep = security("S9", number::INPUT_SHORT, |_| START, |h| h.length() > h.input as u64);
+const S10: SectionStep = security(
+    "S10",
+    number::IDENTITY,
+    |_| SENDER_ID_SIZE,
+    |h| identity_begins_wrong(h.flags.sender_kind(), h.identity_bytes),
+);
+const S11: SectionStep = security(
+    "S11",
+    number::PROVIDER,
+    |h| h.name_at() + breaking_unit(h.name().unwrap_or_default()),
+    |h| h.name().is_some_and(|name| !only_last_is_zero(name)),
+);
+
+/// Offsets in a MessagePropertiesHeader of the fields that fail.
+const LABEL_LENGTH: u64 = 1;
+const MESSAGE_CLASS: u64 = 2;
+const ALLOCATION_BODY_SIZE: u64 = 36;
 
 const P1: SectionStep =
-    properties("P1", number::INPUT_SHORT, |h| (h.input as u64) < h.at + PROPERTIES_FIXED as u64);
-const P2: SectionStep = properties("P2", number::LABEL_LENGTH, |h| {
-    h.label_bytes > LABEL_BYTES_MOST as u64 || !h.label_bytes.is_multiple_of(2)
-});
-const P3: SectionStep = properties("P3", number::CLASS, |h| !class_is_listed(h.class));
-const P4: SectionStep = properties("P4", number::ALLOCATION, |h| h.allocation_is_wrong());
-const P5: SectionStep = properties("P5", number::LIMIT, |h| h.length() > LIMIT);
-const P6: SectionStep = properties("P6", number::INPUT_SHORT, |h| h.length() > h.input as u64);
-const P7: SectionStep =
-    properties("P7", number::LABEL, |h| !h.label.is_empty() && !only_last_is_zero(h.label));
+    properties("P1", number::INPUT_SHORT, |h| h.at, |h| (h.input as u64) < h.at + PROPERTIES_FIXED as u64);
+const P2: SectionStep = properties(
+    "P2",
+    number::LABEL_LENGTH,
+    |h| h.at + LABEL_LENGTH,
+    |h| h.label_bytes > LABEL_BYTES_MOST as u64 || h.label_is_odd(),
+);
+const P3: SectionStep =
+    properties("P3", number::CLASS, |h| h.at + MESSAGE_CLASS, |h| !class_is_listed(h.class));
+const P4: SectionStep =
+    properties("P4", number::ALLOCATION, |h| h.at + ALLOCATION_BODY_SIZE, |h| h.allocation_is_wrong());
+const P5: SectionStep = properties("P5", number::LIMIT, |h| h.at, |h| h.length() > LIMIT);
+const P6: SectionStep = properties("P6", number::INPUT_SHORT, |h| h.at, |h| h.length() > h.input as u64);
+const P7: SectionStep = properties(
+    "P7",
+    number::LABEL,
+    |h| h.label_at() + breaking_unit(h.label),
+    |h| !h.label.is_empty() && !only_last_is_zero(h.label),
+);
 
-const PART_SIZE: SectionStep = security("28", number::PART_SIZE, |h| h.part_is_long());
+const PART_SIZE: SectionStep = security("28", number::PART_SIZE, |_| START, |h| h.part_is_long());
 const OUTPUT: SectionStep = Step { name: "13", answer: number::OUTPUT_SHORT, test: Test::Output };
 
 /// The steps of reading; then 13, which is the support copy's.
@@ -95,8 +148,8 @@ impl Judged for Headers<'_> {
     #[inline(always)]
     fn fails(&self, test: &Test) -> bool {
         match test {
-            Test::Security(fails) => self.security.as_ref().is_some_and(fails),
-            Test::Properties(fails) => fails(&self.properties),
+            Test::Security { fails, .. } => self.security.as_ref().is_some_and(fails),
+            Test::Properties { fails, .. } => fails(&self.properties),
             Test::Output => self.properties.length() > self.output as u64,
         }
     }
@@ -107,11 +160,17 @@ impl Headers<'_> {
     #[inline(always)]
     pub(crate) fn judge(&self, order: &[SectionStep]) -> Result<(), Refusal> {
         let Some(step) = first_failure(order, self) else { return Ok(()) };
-        let place = match step.test {
-            Test::Security(_) | Test::Output => 0,
-            Test::Properties(_) => self.properties.at as usize,
+        Err(Refusal { number: step.answer, place: self.place(&step.test) })
+    }
+
+    /// The place of the refusal by a step with this test.
+    fn place(&self, test: &Test) -> usize {
+        let place = match test {
+            Test::Security { place, .. } => self.security.as_ref().map_or(START, place),
+            Test::Properties { place, .. } => place(&self.properties),
+            Test::Output => START,
         };
-        Err(Refusal { number: step.answer, place })
+        place as usize
     }
 
     /// Start and length of each part, of a section that passed its steps.
@@ -167,8 +226,18 @@ impl SecurityHeader<'_> {
         parts.provider = next(self.provider);
     }
 
+    /// The provider info behind its 4-byte type.
+    pub(crate) fn name(&self) -> Option<&[u8]> {
+        self.provider_info.get(PROVIDER_TYPE..)
+    }
+
+    /// Where the provider name begins.
+    pub(crate) fn name_at(&self) -> u64 {
+        self.length() - padded(self.provider) + PROVIDER_TYPE as u64
+    }
+
     /// S4.
-    fn is_empty(&self) -> bool {
+    pub(crate) fn is_empty(&self) -> bool {
         self.sizes() == [0; 5]
     }
 
@@ -235,12 +304,22 @@ pub(crate) struct PropertiesHeader<'a> {
 impl PropertiesHeader<'_> {
     /// The section's length.
     pub(crate) fn length(&self) -> u64 {
-        padded(self.at + PROPERTIES_FIXED as u64 + self.label_bytes + self.extension + self.message_size)
+        padded(self.label_at() + self.label_bytes + self.extension + self.message_size)
+    }
+
+    /// Where the label begins.
+    pub(crate) fn label_at(&self) -> u64 {
+        self.at + PROPERTIES_FIXED as u64
+    }
+
+    /// P2, of a label to be written.
+    pub(crate) fn label_is_odd(&self) -> bool {
+        !self.label_bytes.is_multiple_of(2)
     }
 
     /// Fills in the last three parts.
     pub(crate) fn lay_out(&self, parts: &mut Parts) {
-        let label = self.at + PROPERTIES_FIXED as u64;
+        let label = self.label_at();
         let extension = label + self.label_bytes;
         parts.label = part(label, self.label_bytes);
         parts.extension = part(extension, self.extension);

@@ -75,7 +75,7 @@ fn example_3_longest_label() {
     assert_eq!(read(&bytes, false).unwrap().summary.length, 556);
     for class in [0, 0x8008] {
         let bytes = properties(251, class, 0, 0, 0);
-        assert_eq!(read(&bytes, false).unwrap_err(), refused(number::LABEL_LENGTH, 0));
+        assert_eq!(read(&bytes, false).unwrap_err(), refused(number::LABEL_LENGTH, 1));
     }
 }
 
@@ -86,14 +86,14 @@ fn example_4_label_of_one_unit() {
     assert_eq!(read(&bytes, false).unwrap().summary.length, 60);
     assert_eq!(label_shown(&bytes, false, b"none"), [0, 0]);
     bytes[57] = 1;
-    assert_eq!(read(&bytes, false).unwrap_err(), refused(number::LABEL, 0));
+    assert_eq!(read(&bytes, false).unwrap_err(), refused(number::LABEL, 56));
     assert_eq!(label_shown(&bytes, false, b"none"), b"none");
 }
 
 #[test]
 fn example_5_classes() {
     let answer = |class| read(&properties(0, class, 0, 0, 0), false).map(|s| s.summary.properties.class);
-    assert_eq!(answer(0x8008), Err(refused(number::CLASS, 0)));
+    assert_eq!(answer(0x8008), Err(refused(number::CLASS, 2)));
     assert_eq!(answer(0x8009), Ok(0x8009));
     let listed: Vec<u16> = (0..=u16::MAX).filter(|&class| answer(class).is_ok()).collect();
     assert_eq!(listed, independent::generate::CLASSES);
@@ -150,7 +150,7 @@ fn example_9_provider_info() {
     assert_eq!(security.provider_type, Some(1));
     assert_eq!(security.provider_name, b"x\0\0\0");
     bytes[24] = 0;
-    assert_eq!(read(&bytes, true).unwrap_err(), refused(number::PROVIDER, 0));
+    assert_eq!(read(&bytes, true).unwrap_err(), refused(number::PROVIDER, 24));
     bytes[12] = 6;
     assert_eq!(read(&bytes, true).unwrap_err(), refused(number::PROVIDER, 0));
 }
@@ -160,7 +160,7 @@ fn allocation_is_not_the_body() {
     let bytes = properties(0, 0, 0, 0, 4);
     let summary = read(&bytes, false).unwrap().summary;
     assert_eq!((summary.length, summary.parts.body), (56, part(56, 56)));
-    assert_eq!(read(&properties(0, 0, 0, 4, 3), false).unwrap_err(), refused(number::ALLOCATION, 0));
+    assert_eq!(read(&properties(0, 0, 0, 4, 3), false).unwrap_err(), refused(number::ALLOCATION, 36));
 }
 
 #[test]
@@ -216,10 +216,10 @@ fn examples_1_to_5_written() {
     assert_eq!(written(SectionValues { label: &longest, ..plain }), Ok(556));
     for message_class in [0, 0x8008] {
         let values = SectionValues { label: &more, message_class, ..plain };
-        assert_eq!(written(values), Err(refused(number::LABEL_LENGTH, 0)));
+        assert_eq!(written(values), Err(refused(number::LABEL_LENGTH, 1)));
     }
     assert_eq!(written(SectionValues { label: &[0, 0], ..plain }), Ok(60));
-    assert_eq!(written(SectionValues { message_class: 0x8008, ..plain }), Err(refused(number::CLASS, 0)));
+    assert_eq!(written(SectionValues { message_class: 0x8008, ..plain }), Err(refused(number::CLASS, 2)));
     assert_eq!(written(SectionValues { message_class: 0x8009, ..plain }), Ok(56));
 }
 

@@ -4,8 +4,11 @@
 
 use std::collections::{BTreeMap, BTreeSet};
 
+use independent::cause::{self, Cause};
 use independent::generate::{case, day, image, image_values, request, section_values, Random};
+use independent::generate::{place_case, place_values};
 use independent::listing::{ended_by, next_record, Next};
+use independent::neighbours::List;
 use independent::queue::{read_image, write_image};
 use independent::request::send;
 use independent::{number, read, write_section, Refusal, Summary};
@@ -135,6 +138,29 @@ fn values_to_be_written() {
     assert!(counts[&0] > 15_000);
     let often = (2..=13).filter(|number| ![number::CERTIFICATE, number::LIMIT].contains(number));
     each_at_least(&counts, often, 100, &[number::LIMIT, number::PART_SIZE]);
+}
+
+/// Every cause of a refusal comes up among the cases for C-17, those to be read and those to be written.
+#[test]
+fn causes() {
+    let mut r = Random::new(11);
+    let mut met = [BTreeMap::new(), BTreeMap::new()];
+    for _ in 0..50_000 {
+        let (case, owned) = (place_case(&mut r), place_values(&mut r));
+        let causes = [
+            cause::reading(&case.bytes, case.security_first),
+            cause::writing(&owned.as_values(), owned.room),
+        ];
+        for (met, cause) in met.iter_mut().zip(causes) {
+            *met.entry(cause.map(|cause| cause.to_string())).or_insert(0) += 1;
+        }
+    }
+    for (met, list) in met.iter().zip([List::Reading, List::Writing]) {
+        println!("causes: {met:?}");
+        for cause in Cause::all(list) {
+            assert!(met.get(&Some(cause.to_string())).is_some_and(|&cases| cases >= 20), "{cause}");
+        }
+    }
 }
 
 #[test]

@@ -1,6 +1,9 @@
 //! Each wrong version differs from the plain one somewhere in the generated cases.
 
-use independent::generate::{case, day, image, image_values, request, section_values, Random};
+use independent::field::field_of;
+use independent::generate::{case, day, image, image_values, place_case, place_values, request};
+use independent::generate::{section_values, Random};
+use independent::planted::{WrongField, WrongPlace};
 use independent::{listing, planted, queue, read, request as requests, support_copy, write_section};
 use independent::{Refusal, Section};
 
@@ -43,6 +46,47 @@ fn verdicts() {
     }
     for wrong in planted::WrongRetired::ALL {
         let found = readings(10, |input, first| planted::read_retired(wrong, input, first));
+        assert!(found > 0, "{wrong:?}");
+    }
+}
+
+#[test]
+fn places() {
+    let reads = |wrong, r: &mut Random| {
+        let case = place_case(r);
+        let (input, first) = (&case.bytes[..], case.security_first);
+        read(input, first) != planted::read_placed(wrong, input, first)
+    };
+    let writes = |wrong, r: &mut Random| {
+        let owned = place_values(r);
+        let values = owned.as_values();
+        writers_differ(
+            owned.room,
+            |out| write_section(&values, out),
+            |out| planted::write_placed(wrong, &values, out),
+        )
+    };
+    for wrong in WrongPlace::ALL.into_iter().chain([WrongPlace::READ]) {
+        assert!(differences(12, |r| reads(wrong, r)) > 0, "{wrong:?}");
+    }
+    for wrong in WrongPlace::ALL.into_iter().chain(WrongPlace::WRITTEN) {
+        assert!(differences(13, |r| writes(wrong, r)) > 0, "{wrong:?}");
+    }
+}
+
+#[test]
+fn fields() {
+    for wrong in WrongField::all() {
+        let found = differences(14, |r| {
+            let case = place_case(r);
+            let (input, first) = (&case.bytes[..], case.security_first);
+            let Refusal { number, place } =
+                read(input, first).err().unwrap_or(Refusal { number: 0, place: input.len() });
+            let differs = |number, place| {
+                field_of(input, first, number, place) != planted::field_of(wrong, input, first, number, place)
+            };
+            differs(number, place) || (0..input.len().min(1_000) + 2).any(|place| differs(0, place))
+        });
         assert!(found > 0, "{wrong:?}");
     }
 }

@@ -40,20 +40,24 @@ fn each_step_refuses_with_its_number_and_place() {
         (with(0x90), number::AUTHENTICATED, 0),
         (with(0x180), number::AUTHENTICATED, 0),
         (with(0x00), number::EMPTY, 0),
-        (SectionValues { encryption_key: b"", ..plain }, number::EMPTY, 0),
-        (SectionValues { sender_id: &[7; 16], ..plain }, number::IDENTITY, 0),
-        (SectionValues { sender_id: &sid[..11], ..with(0x81) }, number::IDENTITY, 0),
-        (SectionValues { sender_id: &[1; 16], ..with(0x81) }, number::IDENTITY, 0),
+        (SectionValues { encryption_key: b"", ..plain }, number::EMPTY, 2),
+        (SectionValues { encryption_key: b"", ..with(0x00) }, number::EMPTY, 0),
+        (SectionValues { sender_id: &[7; 16], ..plain }, number::IDENTITY, 2),
+        (SectionValues { sender_id: &sid[..11], ..with(0x81) }, number::IDENTITY, 2),
+        (SectionValues { sender_id: &[1; 16], ..with(0x81) }, number::IDENTITY, 2),
         (SectionValues { provider_info: &[1; 6], ..with(0xC0) }, number::PROVIDER, 0),
         (SectionValues { signature: b"s", ..plain }, number::PROVIDER, 0),
-        (SectionValues { provider_info: &[1; 6], ..plain }, number::PROVIDER, 0),
-        (SectionValues { label: &[1; 3], message_class: 3, ..plain }, number::LABEL_LENGTH, 20),
-        (SectionValues { message_class: 3, allocation_body_size: LIMIT + 1, ..plain }, number::CLASS, 20),
-        (SectionValues { body: b"b", label: b"aa", ..plain }, number::ALLOCATION, 20),
-        (SectionValues { allocation_body_size: LIMIT + 1, ..plain }, number::ALLOCATION, 20),
-        (SectionValues { allocation_body_size: 1 << 32, ..plain }, number::ALLOCATION, 20),
-        (SectionValues { label: b"aa", ..plain }, number::LABEL, 20),
-        (SectionValues { label: &[0; 4], ..plain }, number::LABEL, 20),
+        (SectionValues { provider_info: &[1; 6], ..plain }, number::PROVIDER, 24),
+        (SectionValues { provider_info: b"type\x01\0\0\0\0\0", ..plain }, number::PROVIDER, 26),
+        (SectionValues { label: &[1; 3], message_class: 3, ..plain }, number::LABEL_LENGTH, 21),
+        (SectionValues { label: &[1; 502], message_class: 3, ..plain }, number::LABEL_LENGTH, 21),
+        (SectionValues { message_class: 3, allocation_body_size: LIMIT + 1, ..plain }, number::CLASS, 22),
+        (SectionValues { body: b"b", label: b"aa", ..plain }, number::ALLOCATION, 56),
+        (SectionValues { allocation_body_size: LIMIT + 1, ..plain }, number::ALLOCATION, 56),
+        (SectionValues { allocation_body_size: 1 << 32, ..plain }, number::ALLOCATION, 56),
+        (SectionValues { label: b"aa", ..plain }, number::LABEL, 76),
+        (SectionValues { label: &[0; 4], ..plain }, number::LABEL, 76),
+        (SectionValues { label: b"aabb", ..plain }, number::LABEL, 78),
     ];
     for (values, number, place) in table {
         assert_eq!(answer(&values, 0), refused(number, place));
@@ -66,11 +70,11 @@ fn each_step_refuses_with_its_number_and_place() {
 fn nothing_wraps() {
     let zeros = vec![0; 65_552];
     let sixteen = SectionValues { sender_id: &zeros, security_flags: 0x82, ..plain() };
-    assert_eq!(answer(&sixteen, 70_000), refused(number::IDENTITY, 0));
+    assert_eq!(answer(&sixteen, 70_000), refused(number::IDENTITY, 2));
     let none = SectionValues { sender_id: &zeros[..65_536], ..plain() };
-    assert_eq!(answer(&none, 70_000), refused(number::IDENTITY, 0));
+    assert_eq!(answer(&none, 70_000), refused(number::IDENTITY, 2));
     let label = SectionValues { label: &zeros[..512], ..Default::default() };
-    assert_eq!(answer(&label, 700), refused(number::LABEL_LENGTH, 0));
+    assert_eq!(answer(&label, 700), refused(number::LABEL_LENGTH, 1));
 }
 
 #[test]
@@ -86,7 +90,7 @@ fn identities_of_kind_1_and_2() {
             if passes {
                 Ok(76 + length)
             } else {
-                refused(number::IDENTITY, 0)
+                refused(number::IDENTITY, 2)
             }
         };
         let listed = (8..=68).step_by(4).any(|size| size == length);
@@ -96,7 +100,7 @@ fn identities_of_kind_1_and_2() {
     for start in [[0, 2], [2, 2], [1, 1], [1, 3], [2, 1]] {
         let identity = [&start[..], &[0; 14]].concat();
         let first = SectionValues { security_flags: 0x81, sender_id: &identity, ..plain() };
-        assert_eq!(answer(&first, 200), refused(number::IDENTITY, 0));
+        assert_eq!(answer(&first, 200), refused(number::IDENTITY, 2));
         assert_eq!(answer(&SectionValues { security_flags: 0x82, ..first }, 200), Ok(92));
     }
 }

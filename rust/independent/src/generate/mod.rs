@@ -4,6 +4,7 @@
 
 mod day;
 mod lists;
+mod places;
 mod queue;
 mod random;
 mod request;
@@ -12,6 +13,7 @@ mod values;
 
 pub use day::{day, long_day};
 pub use lists::CLASSES;
+pub use places::{place_case, place_values};
 pub use queue::{image, image_values, ImageValues, PAIRS};
 pub use random::Random;
 pub use request::{request, OwnedRequest};

@@ -6,6 +6,10 @@ use std::sync::OnceLock;
 use super::lists::{CIPHERS, CLASSES, HASHES, NO_CLASSES, PRIVACY};
 use crate::LIMIT;
 
+/// Counts of units next to which a program that looks at many at a time may go wrong: 3 more are next
+/// to them too.
+const BLOCKS: [usize; 5] = [6, 14, 30, 62, 126];
+
 /// A small random number generator (splitmix64).
 #[derive(Debug, Clone)]
 pub struct Random(u64);
@@ -77,16 +81,40 @@ impl Random {
             _ => 1 + self.below(65_535) as u16,
         }
     }
+    /// A provider's type: often one that has a zero unit, as a name must not.
+    pub(super) fn provider_type(&mut self) -> u32 {
+        match self.below(4) {
+            0 => self.pick(&[0, 1, 24, 0x0001_0000]),
+            1 => self.unit().into(),
+            _ => self.word() as u32,
+        }
+    }
+    /// The units of a provider name: few, or next to a block of 16 units; seldom some thousands.
+    pub(super) fn name_units(&mut self) -> usize {
+        match self.below(16) {
+            0..=3 => self.pick(&BLOCKS) + self.below(4),
+            4 if self.once_in(4) => 1_000 + self.below(4_000),
+            _ => 1 + self.below(20),
+        }
+    }
     /// Which of `units` units are zero, counted from the end: right, or wrong in one of several ways.
     pub(super) fn zeros(&mut self, units: usize) -> Vec<usize> {
-        match self.below(6) {
+        match self.below(10) {
             0 => vec![],
             1 => vec![0, units - 1],
             2 => vec![0, self.below(units)],
             3 => vec![self.below(units)],
             4 => vec![0, 1.min(units - 1)],
+            5 => self.several(units),
+            6 => [vec![0], self.several(units)].concat(),
+            7 => vec![0, units - 1 - (self.pick(&BLOCKS) + self.below(4)).min(units - 1)],
+            8 => (0..units.min(40)).collect(),
             _ => vec![0],
         }
+    }
+    /// A few of `units` units.
+    fn several(&mut self, units: usize) -> Vec<usize> {
+        (0..2 + self.below(4)).map(|_| self.below(units)).collect()
     }
     /// Units as bytes, zero only where `zeros` says, counted from the end.
     pub(super) fn text(&mut self, units: usize, zeros: &[usize]) -> Vec<u8> {

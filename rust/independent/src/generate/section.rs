@@ -65,7 +65,7 @@ pub struct Draft {
 }
 
 /// The steps of reading.
-const STEPS: [&str; 19] = names(&READING);
+pub(super) const STEPS: [&str; 19] = names(&READING);
 
 impl Draft {
     /// A draft that every step passes, with small parts.
@@ -121,7 +121,7 @@ impl Draft {
     }
 
     /// Breaks, or takes to its boundary, what one of the [`STEPS`] looks at.
-    fn break_step(&mut self, r: &mut Random, step: &str) {
+    pub(super) fn break_step(&mut self, r: &mut Random, step: &str) {
         if step.starts_with('S') && !r.once_in(16) {
             self.security_first = true;
         }
@@ -148,11 +148,13 @@ impl Draft {
         }
     }
 
-    /// S4: DP clear, every size zero, or every size zero but one.
+    /// S4: DP clear, every size zero, both, or every size zero but one.
     fn break_presence(&mut self, r: &mut Random) {
         if r.once_in(3) {
             self.flags &= !0x80;
-            return;
+            if !r.once_in(3) {
+                return;
+            }
         }
         let whole = self.clone();
         (self.identity, self.key, self.signature) = (0, 0, 0);
@@ -231,7 +233,7 @@ impl Draft {
     /// S11.
     fn break_provider(&mut self, r: &mut Random) {
         self.flags &= !0x40;
-        let units = 2 + r.below(20);
+        let units = r.name_units();
         self.provider = 4 + 2 * units as u32;
         self.provider_zeros = r.zeros(units);
     }
@@ -340,7 +342,7 @@ impl Draft {
             out.pad(r);
         }
         if self.provider >= 4 {
-            out.random(r, 4);
+            out.put(&r.provider_type().to_le_bytes());
             out.units(r, (self.provider as usize - 4) / 2, &self.provider_zeros);
             out.random(r, self.provider % 2);
         } else {
@@ -480,11 +482,11 @@ fn lengthen_body(r: &mut Random, draft: &mut Draft) {
 }
 
 /// Takes the provider info to the limit or next to it.
-fn lengthen_provider(r: &mut Random, draft: &mut Draft) {
+pub(super) fn lengthen_provider(r: &mut Random, draft: &mut Draft) {
     draft.flags &= !0x40;
     draft.security_first = true;
     let others = draft.security_length() as u64 - padded(draft.provider.into());
-    let end = LIMIT - r.pick(&[0, 4, 52, 56, 60, 100]);
+    let end = LIMIT - r.pick(&[0, 4, 52, 56, 60, 100, 600]);
     draft.provider = (end - others) as u32 - r.pick(&[0, 2]);
     if r.once_in(4) {
         draft.provider_zeros = vec![0, r.below(2_000_000)];

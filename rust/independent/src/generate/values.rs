@@ -54,21 +54,16 @@ pub struct OwnedValues {
     pub room: usize,
 }
 
-/// The section writer's steps.
-const STEPS: [&str; 15] = names(&WRITING);
+/// The section writer's steps, and those that take long to break.
+pub(super) const STEPS: [&str; 15] = names(&WRITING);
+pub(super) const RARE: [&str; 3] = ["28", "S8", "P5"];
 
 /// Values for the section writer: legal ones, or ones with one to three steps or two neighbouring
 /// ones broken or at their boundary.
 pub fn section_values(r: &mut Random) -> OwnedValues {
-    let mut values = OwnedValues::legal(r);
-    let steps = r.steps(&STEPS, &["28", "S8", "P5"]);
-    for step in &steps {
-        values.break_step(r, step);
-    }
-    // A long output is lent only where it can be filled.
-    let length = if values.length() > LIMIT as usize { PROPERTIES_FIXED } else { values.length() };
-    values.room = r.room(length, &steps);
-    values
+    let values = OwnedValues::legal(r);
+    let steps = r.steps(&STEPS, &RARE);
+    values.broken(r, &steps)
 }
 
 impl OwnedValues {
@@ -117,7 +112,18 @@ impl OwnedValues {
         SECURITY_FIXED + sizes.map(|size| size.next_multiple_of(4)).sum::<usize>()
     }
 
-    fn legal(r: &mut Random) -> Self {
+    /// The same with these steps broken or at their boundary, and with bytes to lend.
+    pub(super) fn broken(mut self, r: &mut Random, steps: &[&str]) -> Self {
+        for step in steps {
+            self.break_step(r, step);
+        }
+        // A long output is lent only where it can be filled.
+        let length = if self.length() > LIMIT as usize { PROPERTIES_FIXED } else { self.length() };
+        self.room = r.room(length, steps);
+        self
+    }
+
+    pub(super) fn legal(r: &mut Random) -> Self {
         let mut values = Self { security_first: r.below(5) < 3, ..Self::default() };
         values.draw_security(r);
         values.draw_properties(r);
@@ -209,11 +215,13 @@ impl OwnedValues {
         }
     }
 
-    /// S4: DP clear, every part empty, or every part empty but one.
+    /// S4: DP clear, every part empty, both, or every part empty but one.
     fn break_presence(&mut self, r: &mut Random) {
         if r.once_in(3) {
             self.security_flags &= !0x80;
-            return;
+            if !r.once_in(3) {
+                return;
+            }
         }
         if r.once_in(2) {
             self.security_flags &= 0xFFF0;
@@ -272,7 +280,7 @@ impl OwnedValues {
     /// S11.
     fn break_provider(&mut self, r: &mut Random) {
         self.security_flags &= !0x40;
-        let units = 2 + r.below(20);
+        let units = r.name_units();
         let zeros = r.zeros(units);
         self.provider_info = provider_info(r, units, &zeros).into();
     }
@@ -307,12 +315,18 @@ impl OwnedValues {
         }
     }
 
-    /// S8, by provider info that is zero all through; or its boundary, by one that S11 passes.
+    /// S8, by provider info that is zero all through; or its boundary.
     fn lengthen_header(&mut self, r: &mut Random) {
         if !r.once_in(12) {
             self.provider_info = zero_bytes(LIMIT as usize + r.below(4));
-            return;
+        } else {
+            self.fill_header(r);
         }
+    }
+
+    /// Takes the header to the limit or next to it, by provider info that S11 passes.
+    pub(super) fn fill_header(&mut self, r: &mut Random) {
+        self.security_first = true;
         self.security_flags &= !0x40;
         self.provider_info = Cow::default();
         let room = LIMIT as usize - self.security_length();
@@ -351,7 +365,7 @@ fn small_part(r: &mut Random) -> Vec<u8> {
 
 /// A type and a name of `units` units, zero only where `zeros` says.
 fn provider_info(r: &mut Random, units: usize, zeros: &[usize]) -> Vec<u8> {
-    let mut info = r.bytes(4);
+    let mut info = r.provider_type().to_le_bytes().to_vec();
     info.extend_from_slice(&r.text(units, zeros));
     info
 }

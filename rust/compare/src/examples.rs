@@ -1,14 +1,15 @@
-//! 01's examples, C-14's and C-21's, held against each side. Their parts have content that passes S10, S11 and P7.
+//! 01's examples, C-14's, C-17's and C-21's, held against each side. Where nothing else is said, their parts have
+//! content that passes S10, S11 and P7.
 
 use crate::lend::lend;
 use crate::report::{agree, Check, Tally};
-use crate::side::{Answer, Part, Refusal, Request, SectionValues, Side, Sides, Source};
+use crate::side::{Answer, FieldAt, Part, Refusal, Request, SectionValues, Side, Sides, Source};
 
 /// An example's name, and what it says of a side.
 type Example = (&'static str, fn(&dyn Side) -> Check);
 
 /// The examples, by their numbers.
-const EXAMPLES: [Example; 14] = [
+const EXAMPLES: [Example; 15] = [
     ("example 1", zero_bytes),
     ("example 2", parts_in_a_row),
     ("example 3", longest_label),
@@ -22,6 +23,7 @@ const EXAMPLES: [Example; 14] = [
     ("example 11", titles),
     ("the listing's example", listing),
     ("C-14's example", level_and_algorithm),
+    ("C-17's example", places),
     ("C-21's example", retired),
 ];
 
@@ -136,9 +138,9 @@ fn longest_label(side: &dyn Side) -> Check {
     reads(side, &Input::plain(250, 0, 0, 0, &label(250)).0, false, Ok(556))?;
     writes(side, &SectionValues { label: &label(250), ..plain() }, Ok(556))?;
     for message_class in [0, 0x8008] {
-        reads(side, &Input::plain(251, message_class, 0, 0, &label(251)).0, false, refused(9, 0))?;
+        reads(side, &Input::plain(251, message_class, 0, 0, &label(251)).0, false, refused(9, 1))?;
         let label = &label(251);
-        writes(side, &SectionValues { label, message_class, ..plain() }, refused(9, 0))?;
+        writes(side, &SectionValues { label, message_class, ..plain() }, refused(9, 1))?;
     }
     Ok(())
 }
@@ -151,7 +153,7 @@ fn label_of_one_unit(side: &dyn Side) -> Check {
 }
 
 fn classes(side: &dyn Side) -> Check {
-    for (message_class, wanted) in [(0x8008, refused(10, 0)), (0x8009, Ok(56))] {
+    for (message_class, wanted) in [(0x8008, refused(10, 2)), (0x8009, Ok(56))] {
         reads(side, &Input::plain(0, message_class, 0, 0, &[]).0, false, wanted)?;
         writes(side, &SectionValues { message_class, ..plain() }, wanted)?;
     }
@@ -266,6 +268,41 @@ fn level_and_algorithm(side: &dyn Side) -> Check {
             let found = side.summarize(&bytes, true).map(|summary| summary.decryption_fails);
             agree("decryption fails", &found, &Ok(wanted))?;
         }
+    }
+    Ok(())
+}
+
+/// The fields that fail, each of the text's units, and what their places are called.
+fn places(side: &dyn Side) -> Check {
+    let named = |input: &[u8], number, place, field, offset| {
+        let refusal = Refusal { number, place };
+        reads(side, input, true, Err(refusal))?;
+        agree("the field", &side.field_of(input, true, refusal), &FieldAt { field, offset })
+    };
+    for (flags, sizes, certificate, provider, number, place, field) in [
+        (0x0083, [0, 4, 0], 0, 0, 2, 0, 1),
+        (0x0180, [0, 4, 0], 0, 0, 3, 0, 1),
+        (0x0000, [0, 0, 0], 0, 0, 4, 0, 1),
+        (0x0080, [0, 0, 0], 0, 0, 4, 2, 2),
+        (0x0080, [0, 4, 0], 65_536, 0, 5, 8, 5),
+        (0x0081, [7, 4, 0], 0, 0, 6, 2, 2),
+        (0x0081, [8, 0, 0], 0, 0, 6, 2, 2), // by S10
+        (0x00C0, [0, 4, 0], 0, 6, 7, 0, 34),
+    ] {
+        let header = Input::security(flags, sizes, certificate, provider, b"not a SID");
+        named(&[&header.0[..], &[0; 99]].concat(), number, place, field, 0)?;
+    }
+    for (name, unit) in [(b"\0\0b\0\0\0", 0), (b"a\0\0\0\0\0", 2), (b"a\0b\0c\0", 4)] {
+        let provider_info = &[b"type", &name[..]].concat()[..];
+        let header = Input::security(0x0080, [0, 4, 0], 0, 10, &[b"akey", provider_info, b"??"].concat());
+        named(&header.properties(0, 0, 0, 0, &[]).0, 7, 24 + unit, 16, unit)?;
+        let values = SectionValues { encryption_key: b"akey", ..secured() };
+        writes(side, &SectionValues { provider_info, ..values }, refused(7, 24 + unit))?;
+        let keyed = Input::security(0x0080, [0, 4, 0], 0, 0, b"akey");
+        named(&keyed.properties(3, 0, 0, 0, &[&name[..], b"??"].concat()).0, 12, 76 + unit, 30, unit)?;
+        writes(side, &SectionValues { label: name, ..values }, refused(12, 76 + unit))?;
+        writes(side, &SectionValues { label: &name[..5], ..values }, refused(9, 20 + 1))?;
+        writes(side, &SectionValues { body: name, ..values }, refused(11, 20 + 36))?;
     }
     Ok(())
 }

@@ -1,10 +1,10 @@
 //! Holds the proved library against the independent one: a header is read once by each, and the two have to agree on
 //! every input.
 //!
-//! [`side`] puts both behind one interface; [`sections`], [`writing`], [`queues`], [`requests`], [`listing`] and
-//! [`copies`] compare two sides on generated cases, [`classes`], [`pairs`], [`retired`], [`sweeps`] and [`examples`] on
-//! fixed ones; [`properties`] says what has to hold of one side alone. Each takes its sides as arguments, so that a test
-//! can put a wrong one there.
+//! [`side`] puts both behind one interface; [`sections`], [`writing`], [`places`], [`fields`], [`queues`],
+//! [`requests`], [`listing`] and [`copies`] compare two sides on generated cases, [`classes`], [`pairs`], [`retired`],
+//! [`sweeps`] and [`examples`] on fixed ones; [`properties`] says what has to hold of one side alone. Each takes its
+//! sides as arguments, so that a test can put a wrong one there.
 
 #![forbid(unsafe_code)]
 #![warn(missing_docs)]
@@ -13,10 +13,12 @@ pub mod bits;
 pub mod classes;
 pub mod copies;
 pub mod examples;
+pub mod fields;
 pub mod lend;
 pub mod library;
 pub mod listing;
 pub mod pairs;
+pub mod places;
 pub mod properties;
 pub mod queues;
 pub mod report;

@@ -11,8 +11,8 @@ use std::thread;
 use independent::queue::Value;
 use ugbariteyo as library;
 
-use crate::side::{Answer, Defaulted, Image, Line, Next, Part, Parts, Reading, Record, Records, Refusal};
-use crate::side::{Request, SectionValues, Security, Sent, Side, Source, Summary};
+use crate::side::{Answer, Defaulted, FieldAt, Image, Line, Next, Part, Parts, Reading, Record, Records};
+use crate::side::{Refusal, Request, SectionValues, Security, Sent, Side, Source, Summary};
 
 /// Where the listing program lies where nothing else is said.
 const LISTING: &str = concat!(env!("CARGO_MANIFEST_DIR"), "/../../target/bin/listing");
@@ -54,6 +54,12 @@ impl Side for Library {
     }
     fn label_shown<'a>(&self, input: &'a [u8], security_first: bool, stand_in: &'a [u8]) -> &'a [u8] {
         library::label_shown(input, first(security_first), stand_in)
+    }
+    fn field_at(&self, input: &[u8], security_first: bool, place: usize) -> FieldAt {
+        field_at(input, first(security_first), place)
+    }
+    fn field_of(&self, input: &[u8], security_first: bool, refusal: Refusal) -> FieldAt {
+        field_of(input, first(security_first), refusal)
     }
     fn support_copy(&self, input: &[u8], security_first: bool, out: &mut [u8]) -> Answer<usize> {
         library::support_copy(input, first(security_first), out).map_err(refusal)
@@ -163,6 +169,16 @@ fn record<'a>(record: &library::Record<'a>) -> Record<'a> {
 
 fn refusal(refusal: library::Refusal) -> Refusal {
     Refusal { number: refusal.number, place: refusal.place }
+}
+
+/// The field at a place; for now the independent one, until the safe crate names it.
+fn field_at(input: &[u8], first: library::First, place: usize) -> FieldAt {
+    independent::field::field_of(input, security_first(first), 0, place)
+}
+
+/// The field of a refusal; for now the independent one, until the safe crate names it.
+fn field_of(input: &[u8], first: library::First, refusal: Refusal) -> FieldAt {
+    independent::field::field_of(input, security_first(first), refusal.number, refusal.place)
 }
 
 fn part(part: library::Part) -> Part {

@@ -16,8 +16,8 @@ use compare::report::{Tally, HEADER};
 use compare::second::Independent;
 use compare::side::Sides;
 use compare::{
-    classes, copies, examples, listing, pairs, properties, queues, requests, retired, sections, sweeps,
-    writing,
+    classes, copies, examples, fields, listing, pairs, places, properties, queues, requests, retired,
+    sections, sweeps, writing,
 };
 use independent::generate::Random;
 
@@ -27,6 +27,8 @@ const SEED: u64 = 0x57_52;
 const SECTION: [u32; 12] = [1, 2, 3, 4, 5, 6, 7, 8, 9, 10, 11, 12];
 /// The refusals of a section that is written.
 const WRITER: [u32; 12] = [2, 3, 4, 6, 7, 8, 9, 10, 11, 12, 13, 28];
+/// Those of its S and P steps.
+const WRITER_STEPS: [u32; 10] = [2, 3, 4, 6, 7, 8, 9, 10, 11, 12];
 /// The refusals of a request.
 const REQUEST: [u32; 14] = [8, 10, 11, 13, 20, 21, 22, 23, 24, 25, 26, 27, 28, 29];
 
@@ -106,6 +108,7 @@ fn run(arguments: Arguments) -> io::Result<u64> {
     print(sweeps::run(sides, &mut generator()), &[]);
     print(properties::run(&library, 500_000 * factor, &mut generator()), &SECTION);
     print(writing::run(sides, 300_000 * factor, &mut generator()), &WRITER);
+    run_places(sides, factor, &mut generator()).into_iter().for_each(|(tally, met)| print(tally, met));
     print(queues::run_reading(sides, 300_000 * factor, &mut generator()), &[1, 30, 31, 32, 33]);
     print(queues::run_writing(sides, 300_000 * factor, &mut generator()), &[13, 30, 31, 32, 33]);
     print(requests::run(sides, 300_000 * factor, &mut generator()), &REQUEST);
@@ -113,4 +116,14 @@ fn run(arguments: Arguments) -> io::Result<u64> {
     print(copies::run(&copied, copies::faithful(), 50_000 * factor, &mut generator())?, &SECTION);
     println!("{cases} cases, {differences} differences");
     Ok(differences)
+}
+
+/// The kinds of C-17, and the refusals that each is to meet.
+fn run_places(sides: Sides<'_>, factor: u64, r: &mut Random) -> [(Tally, &'static [u32]); 4] {
+    [
+        (places::run_reading(sides, 300_000 * factor, r), &SECTION),
+        (places::run_writing(sides, 200_000 * factor, r), &WRITER_STEPS),
+        (places::run_units(sides), &[7, 12]),
+        (fields::run(sides, 100_000 * factor, r), &SECTION),
+    ]
 }

@@ -2,10 +2,10 @@
 
 use std::io;
 
-use independent::{listing, queue, request};
+use independent::{field, listing, queue, request};
 
-use crate::side::{part_of, Answer, Defaulted, Image, Next, Reading, Record, Request, Section};
-use crate::side::{SectionValues, Security, Sent, Side, Source, Summary};
+use crate::side::{part_of, Answer, Defaulted, FieldAt, Image, Next, Reading, Record, Refusal, Request};
+use crate::side::{Section, SectionValues, Security, Sent, Side, Source, Summary};
 
 /// The independent reader and writer.
 pub struct Independent;
@@ -22,6 +22,12 @@ impl Side for Independent {
     }
     fn label_shown<'a>(&self, input: &'a [u8], security_first: bool, stand_in: &'a [u8]) -> &'a [u8] {
         independent::label_shown(input, security_first, stand_in)
+    }
+    fn field_at(&self, input: &[u8], security_first: bool, place: usize) -> FieldAt {
+        field::field_of(input, security_first, 0, place)
+    }
+    fn field_of(&self, input: &[u8], security_first: bool, refusal: Refusal) -> FieldAt {
+        field::field_of(input, security_first, refusal.number, refusal.place)
     }
     fn support_copy(&self, input: &[u8], security_first: bool, out: &mut [u8]) -> Answer<usize> {
         independent::support_copy(input, security_first, out)

@@ -3,6 +3,7 @@
 use std::fmt::Debug;
 use std::io;
 
+pub use independent::field::FieldAt;
 pub use independent::listing::Line;
 pub use independent::queue::Image;
 pub use independent::request::Request;
@@ -179,6 +180,10 @@ pub trait Side {
     fn same_summary(&self, a: &[u8], b: &[u8], security_first: bool) -> bool;
     /// The label for display.
     fn label_shown<'a>(&self, input: &'a [u8], security_first: bool, stand_in: &'a [u8]) -> &'a [u8];
+    /// The field or part at any place of `input`.
+    fn field_at(&self, input: &[u8], security_first: bool, place: usize) -> FieldAt;
+    /// The field, part or header that the place of `input`'s refusal means.
+    fn field_of(&self, input: &[u8], security_first: bool, refusal: Refusal) -> FieldAt;
     /// The support copy.
     fn support_copy(&self, input: &[u8], security_first: bool, out: &mut [u8]) -> Answer<usize>;
     /// The section of these values.

@@ -21,12 +21,13 @@ pub fn run(sides: Sides<'_>, cases: u64, r: &mut Random) -> Tally {
     tally
 }
 
-fn write(side: &dyn Side, values: &SectionValues<'_>, room: usize) -> Written {
+/// What a side writes to so many lent bytes.
+pub fn write(side: &dyn Side, values: &SectionValues<'_>, room: usize) -> Written {
     lend(room, |out| side.write_section(values, out))
 }
 
 /// Writes the values with both sides; what the one wrote has to read back as them.
-fn compare(sides: Sides<'_>, owned: &OwnedValues) -> Check {
+pub fn compare(sides: Sides<'_>, owned: &OwnedValues) -> Check {
     let values = owned.as_values();
     let written = sides.both("the section", |side| write(side, &values, owned.room))?;
     written.rest_stays()?;

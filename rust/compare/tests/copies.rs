@@ -18,9 +18,12 @@ fn compared(other: Copier) -> Tally {
 fn day_files_copied() {
     let faithful_tally = compared(faithful());
     assert_eq!(faithful_tally.differences(), 0, "{:#?}", faithful_tally.first());
-    for day in
-        [planted::copy_day_length_kept, planted::copy_day_security_lost, planted::copy_day_refused_written]
-    {
+    for day in [
+        planted::copy_day_length_kept,
+        planted::copy_day_security_lost,
+        planted::copy_day_refused_written,
+        planted::copy_day_at_headers,
+    ] {
         let wrong = compared(Copier { day, ..faithful() });
         assert!(wrong.differences() > 0, "a fault is not found: {wrong}");
     }

@@ -5,14 +5,15 @@ use std::io;
 use compare::library::Library;
 use compare::report::Tally;
 use compare::second::{defaulted, reading, sent, summary, Independent};
-use compare::side::{Answer, Defaulted, Image, Line, Next, Reading, Record, Records, Request};
-use compare::side::{SectionValues, Sent, Side, Sides, Source, Summary};
+use compare::side::{Answer, Defaulted, FieldAt, Image, Line, Next, Reading, Record, Records, Refusal};
+use compare::side::{Request, SectionValues, Sent, Side, Sides, Source, Summary};
 use compare::{
-    classes, examples, listing, pairs, properties, queues, requests, retired, sections, sweeps, writing,
+    classes, examples, fields, listing, pairs, places, properties, queues, requests, retired, sections,
+    sweeps, writing,
 };
 use independent::generate::Random;
 use independent::neighbours::{List, Neighbours};
-use independent::planted::{self, WrongRetired, WrongStep, WrongVerdict};
+use independent::planted::{self, WrongField, WrongPlace, WrongRetired, WrongStep, WrongVerdict};
 
 /// The generated cases of a kind.
 const CASES: u64 = 8_000;
@@ -34,6 +35,15 @@ enum Fault {
     RetiredWritten,
     /// A request's 29 is another.
     RetiredSent(WrongStep),
+    /// A refusal's place is another where a section is read, copied or written, in a record or in the listing.
+    PlaceRead(WrongPlace),
+    PlaceCopied(WrongPlace),
+    PlaceWritten(WrongPlace),
+    PlaceInRecord(WrongPlace),
+    PlaceListed(WrongPlace),
+    /// A place is named as another field, or where a refusal gave it.
+    FieldAtPlace(WrongField),
+    FieldOfRefusal(WrongField),
     /// Private bits count.
     SameSummary,
     /// A label of one unit is taken for none.
@@ -104,6 +114,9 @@ impl Side for Planted {
             Fault::Retired(wrong) => {
                 planted::read_retired(wrong, input, security_first).map(|section| reading(&section, input))
             }
+            Fault::PlaceRead(wrong) => {
+                planted::read_placed(wrong, input, security_first).map(|section| reading(&section, input))
+            }
             Fault::Exchanged(List::Reading, pair) => planted::read_exchanged(pair.at, input, security_first)
                 .map(|section| reading(&section, input)),
             _ => Independent.read(input, security_first),
@@ -114,6 +127,7 @@ impl Side for Planted {
             Fault::Read => planted::read(input, security_first).map(|section| summary(&section)),
             Fault::Exchanged(List::Reading, _)
             | Fault::ClassRead(_)
+            | Fault::PlaceRead(_)
             | Fault::Verdict(_)
             | Fault::Retired(_) => self.read(input, security_first).map(|reading| reading.summary),
             _ => Independent.summarize(input, security_first),
@@ -128,9 +142,26 @@ impl Side for Planted {
             shown => shown,
         }
     }
+    fn field_at(&self, input: &[u8], security_first: bool, place: usize) -> FieldAt {
+        match self.0 {
+            Fault::FieldAtPlace(wrong) => planted::field_of(wrong, input, security_first, 0, place),
+            _ => Independent.field_at(input, security_first, place),
+        }
+    }
+    fn field_of(&self, input: &[u8], security_first: bool, refusal: Refusal) -> FieldAt {
+        match self.0 {
+            Fault::FieldOfRefusal(wrong) => {
+                planted::field_of(wrong, input, security_first, refusal.number, refusal.place)
+            }
+            _ => Independent.field_of(input, security_first, refusal),
+        }
+    }
     fn support_copy(&self, input: &[u8], security_first: bool, out: &mut [u8]) -> Answer<usize> {
         let answer = match self.0 {
             Fault::SupportCopy => planted::support_copy(input, security_first, out),
+            Fault::PlaceCopied(wrong) | Fault::PlaceRead(wrong) => {
+                planted::support_copy_placed(wrong, input, security_first, out)
+            }
             Fault::Exchanged(List::Reading, pair) => {
                 planted::support_copy_exchanged(pair.at, input, security_first, out)
             }
@@ -143,6 +174,7 @@ impl Side for Planted {
             Fault::WriteSection => planted::write_section(values, out),
             Fault::ClassWritten(extra) => planted::write_class(extra, values, out),
             Fault::RetiredWritten => planted::write_retired(values, out),
+            Fault::PlaceWritten(wrong) => planted::write_placed(wrong, values, out),
             Fault::Exchanged(List::Writing, pair) => planted::write_exchanged(pair.at, values, out),
             _ => Independent.write_section(values, out),
         };
@@ -212,6 +244,7 @@ impl Side for Planted {
         let mut lines = Vec::new();
         match self.0 {
             Fault::List => planted::list(file, &mut lines)?,
+            Fault::PlaceListed(wrong) => planted::list_placed(wrong, file, &mut lines)?,
             Fault::Exchanged(List::Record, pair) => planted::list_exchanged(pair.at, file, &mut lines)?,
             Fault::LeftOut(test) => planted::list_without(test, file, &mut lines)?,
             _ => lines = Independent.list(file, source)?,
@@ -227,6 +260,10 @@ fn wrong_record(fault: Fault, record: Record<'_>) -> Record<'_> {
             Record { answer: Ok(Line { label: 2 * line.label, ..line }), ..record }
         }
         (Fault::RecordSection, Ok(line)) => Record { section: &record.section[..line.total], ..record },
+        (Fault::PlaceInRecord(wrong), Err(right)) => {
+            let placed = planted::read_placed(wrong, record.section, record.security_first);
+            Record { answer: Err(placed.err().unwrap_or(right)), ..record }
+        }
         (Fault::RecordFirst, _) => Record { security_first: false, ..record },
         _ => record,
     }
@@ -253,6 +290,8 @@ fn sections_read_and_copied() {
     faults.extend(WrongVerdict::ALL.map(Fault::Verdict));
     faults.extend(WrongRetired::ALL.map(Fault::Retired));
     faults.push(Fault::RetiredWritten);
+    faults.extend(WrongPlace::ALL.map(Fault::PlaceRead));
+    faults.extend([WrongPlace::HeaderStart, WrongPlace::UnitAfter].map(Fault::PlaceCopied));
     faults.append(&mut exchanges(List::Reading));
     finds(&faults, |sides| {
         let [sections, _] = sections::run(sides, CASES, &mut Random::new(1));
@@ -281,6 +320,41 @@ fn everything_retired() {
 }
 
 #[test]
+fn places_read() {
+    use WrongField::{FirstHeader, HeaderAtFlags, NameOffset, Place, SizeAtFlags};
+    let wrong = WrongPlace::ALL.into_iter().chain([WrongPlace::READ]);
+    let named = [FirstHeader, HeaderAtFlags, NameOffset, Place, SizeAtFlags];
+    let faults: Vec<_> = wrong.map(Fault::PlaceRead).chain(named.map(Fault::FieldOfRefusal)).collect();
+    finds(&faults, |sides| places::run_reading(sides, CASES, &mut Random::new(14)));
+}
+
+#[test]
+fn places_written() {
+    let wrong = WrongPlace::ALL.into_iter().chain(WrongPlace::WRITTEN);
+    let faults: Vec<_> = wrong.map(Fault::PlaceWritten).collect();
+    finds(&faults, |sides| places::run_writing(sides, CASES, &mut Random::new(15)));
+}
+
+#[test]
+fn places_of_units() {
+    use WrongPlace::{
+        Block, FromPart, FromType, LastUnit, LastZero, TypeAsUnits, Unaligned, UnitAfter, ZeroByte,
+    };
+    let wrong = [Block, FromPart, FromType, LastUnit, LastZero, TypeAsUnits, Unaligned, UnitAfter, ZeroByte];
+    let faults = [wrong.map(Fault::PlaceRead), wrong.map(Fault::PlaceWritten)].concat();
+    finds(&faults, places::run_units);
+}
+
+#[test]
+fn fields_named() {
+    let in_refusals = [WrongField::SizeAtFlags, WrongField::HeaderAtFlags, WrongField::FirstHeader];
+    let at_places = WrongField::all().into_iter().filter(|wrong| !in_refusals.contains(wrong));
+    let faults: Vec<_> = at_places.map(Fault::FieldAtPlace).collect();
+    let faults = [&faults[..], &in_refusals.map(Fault::FieldOfRefusal)].concat();
+    finds(&faults, |sides| fields::run(sides, CASES, &mut Random::new(16)));
+}
+
+#[test]
 fn sections_swept() {
     let faults = [Fault::Read, Fault::Retired(WrongRetired::Sha1)];
     finds(&faults, |sides| sweeps::run(sides, &mut Random::new(2)));
@@ -298,7 +372,8 @@ fn demand_3_of_one_side() {
 #[test]
 fn section_values_written() {
     let faults = vec![Fault::WriteSection, Fault::RetiredWritten, Fault::Refusal];
-    let faults = [faults, exchanges(List::Writing)].concat();
+    let wrong = WrongPlace::ALL.into_iter().chain(WrongPlace::WRITTEN).map(Fault::PlaceWritten);
+    let faults = [faults, wrong.collect(), exchanges(List::Writing)].concat();
     finds(&faults, |sides| writing::run(sides, CASES, &mut Random::new(4)));
 }
 
@@ -326,6 +401,9 @@ fn requests_sent() {
 fn day_files_listed() {
     use Fault::{List as Listed, RecordFirst, RecordLine, RecordSection, RecordStop, StopNumber};
     let mut faults = vec![Listed, RecordLine, RecordSection, RecordFirst, RecordStop, StopNumber];
+    let wrong = [WrongPlace::HeaderStart, WrongPlace::LastUnit];
+    faults.extend(wrong.map(Fault::PlaceInRecord));
+    faults.extend(wrong.map(Fault::PlaceListed));
     faults.append(&mut exchanges(List::Record));
     // Tests of a head answer alike: that each of them counts shows where it is left out.
     faults.extend(planted::HEAD_TESTS.map(Fault::LeftOut));
@@ -334,10 +412,19 @@ fn day_files_listed() {
     });
 }
 
+/// A kind of comparison.
+type Run = fn(Sides<'_>) -> Tally;
+
+/// That `run` holds for the independent library, and not where both sides have the fault.
+fn tells(fault: Fault, run: Run) {
+    assert_eq!(run(Sides { one: &Independent, other: &Independent }).differences(), 0);
+    let wrong = run(Sides { one: &Planted(fault), other: &Planted(fault) });
+    assert!(wrong.differences() > 0, "{fault:?} is not found: {wrong}");
+}
+
 /// Where both sides are wrong in the same way, what has to hold of one side alone tells.
 #[test]
 fn the_same_fault_on_both_sides() {
-    type Run = fn(Sides<'_>) -> Tally;
     let sections: Run = |sides| sections::run(sides, CASES, &mut Random::new(9)).into_iter().next().unwrap();
     let writing: Run = |sides| writing::run(sides, CASES, &mut Random::new(9));
     let reading_images: Run = |sides| queues::run_reading(sides, CASES, &mut Random::new(9));
@@ -366,9 +453,26 @@ fn the_same_fault_on_both_sides() {
         (Fault::Refusal, requests),
     ];
     for (fault, run) in others.into_iter().chain(wrong_verdicts).chain(wrong_steps) {
-        assert_eq!(run(Sides { one: &Independent, other: &Independent }).differences(), 0);
-        let wrong = run(Sides { one: &Planted(fault), other: &Planted(fault) });
-        assert!(wrong.differences() > 0, "{fault:?} is not found: {wrong}");
+        tells(fault, run);
+    }
+}
+
+/// The same for places and the fields that they lie in.
+#[test]
+fn the_same_wrong_place_on_both_sides() {
+    for wrong in WrongPlace::ALL.into_iter().chain([WrongPlace::READ]) {
+        tells(Fault::PlaceRead(wrong), |sides| places::run_reading(sides, CASES, &mut Random::new(9)));
+    }
+    for wrong in WrongPlace::ALL.into_iter().chain(WrongPlace::WRITTEN) {
+        tells(Fault::PlaceWritten(wrong), |sides| places::run_writing(sides, CASES, &mut Random::new(9)));
+    }
+    for fault in [Fault::PlaceRead(WrongPlace::UnitAfter), Fault::PlaceWritten(WrongPlace::Block)] {
+        tells(fault, places::run_units);
+    }
+    use WrongField::{Early, Late, Padding, SizeAtFlags};
+    let at_places = [Early(2), Late(25), Padding].map(Fault::FieldAtPlace);
+    for fault in at_places.into_iter().chain([Fault::FieldOfRefusal(SizeAtFlags)]) {
+        tells(fault, |sides| fields::run(sides, CASES, &mut Random::new(9)));
     }
 }
 
@@ -377,5 +481,8 @@ fn examples_of_the_paper() {
     let old = Fault::Verdict(WrongVerdict::LevelIgnored);
     use Fault::{Read, Retired, RetiredSent, RetiredWritten, WriteSection};
     let retired = [Retired(WrongRetired::Unsigned), RetiredWritten, RetiredSent(WrongStep::LeftOut)];
-    finds(&[&[Read, WriteSection, old][..], &retired].concat(), examples::run);
+    use WrongPlace::{AtIdentity, EmptyAtFlags, EmptyAtSize, HeaderStart, LastUnit, OddAtStart};
+    let placed = [HeaderStart, LastUnit, EmptyAtFlags, EmptyAtSize, AtIdentity].map(Fault::PlaceRead);
+    let written = [HeaderStart, LastUnit, OddAtStart].map(Fault::PlaceWritten);
+    finds(&[&[Read, WriteSection, old][..], &retired, &placed, &written].concat(), examples::run);
 }

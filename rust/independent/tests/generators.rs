@@ -158,7 +158,7 @@ fn causes() {
     for (met, list) in met.iter().zip([List::Reading, List::Writing]) {
         println!("causes: {met:?}");
         for cause in Cause::all(list) {
-            assert!(met.get(&Some(cause.to_string())).is_some_and(|&cases| cases >= 20), "{cause}");
+            assert!(met.get(&Some(cause.to_string())).is_some_and(|&cases| cases >= 5), "{cause}");
         }
     }
 }

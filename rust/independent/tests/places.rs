@@ -135,73 +135,60 @@ fn the_field_of_each_refusal() {
     }
 }
 
-#[test]
-fn fields_by_hand() {
-    let header = security(0x81, [12, 3, 5], 1, 7);
-    let parts = b"identity 12.key?signe???c???typenam?";
+/// A section with every part, refused by S6; the bytes of its fields and parts, by number from 1 on.
+fn every_part() -> (Vec<u8>, [usize; 33]) {
+    let header = security(0x81, [13, 3, 5], 1, 7);
+    let parts = b"thirteen byte???key?signe???c???typenam?";
     let mut fixed = [0; 56];
     (fixed[1], fixed[32], fixed[52]) = (1, 2, 3);
-    let input = [&header[..], parts, &fixed, b"\0\0extbo?behind"].concat();
-    let fields = [
-        (1, 2),
-        (2, 2),
-        (3, 2),
-        (4, 2),
-        (5, 4),
-        (6, 4),
-        (7, 12),
-        (9, 3),
-        (10, 1),
-        (11, 5),
-        (12, 3),
-        (13, 1),
-        (14, 3),
-        (15, 4),
-        (16, 3),
-        (17, 1),
-        (18, 1),
-        (19, 1),
-        (20, 2),
-        (21, 20),
-        (22, 4),
-        (23, 4),
-        (24, 4),
-        (25, 4),
-        (26, 4),
-        (27, 4),
-        (28, 4),
-        (29, 4),
-        (30, 2),
-        (31, 3),
-        (32, 2),
-        (33, 1),
-        (0, 1),
-    ];
+    let lengths =
+        [2, 2, 2, 2, 4, 4, 13, 3, 3, 1, 5, 3, 1, 3, 4, 3, 1, 1, 1, 2, 20, 4, 4, 4, 4, 4, 4, 4, 4, 2, 3, 2, 1];
+    ([&header[..], parts, &fixed, b"\0\0extbo?"].concat(), lengths)
+}
+
+#[test]
+fn each_byte_of_each_field() {
+    let (section, lengths) = every_part();
+    assert_eq!(section.len(), lengths.iter().sum());
     let mut place = 0;
-    for (field, length) in fields {
+    for (field, length) in (1..).zip(lengths) {
         for offset in 0..length {
-            assert_eq!(
-                field_of(&input, true, 0, place),
-                FieldAt { field, offset },
-                "{}",
-                NAMES[field as usize]
-            );
+            let found = field_of(&section, true, 0, place);
+            assert_eq!(found, FieldAt { field, offset }, "{}", NAMES[field as usize]);
             place += 1;
         }
     }
+}
+
+#[test]
+fn behind_the_section_and_the_input() {
+    let (section, _) = every_part();
+    let behind = [&section[..], b"behind"].concat();
     let none = FieldAt::default();
-    for place in [input.len() - 1, input.len(), usize::MAX] {
-        assert_eq!(field_of(&input, true, 12, place), none);
+    for place in [section.len(), section.len() + 1, behind.len() - 1, behind.len(), usize::MAX] {
+        assert_eq!(field_of(&behind, true, 12, place), none);
+        assert_eq!(field_of(&section, true, 12, place), none);
     }
-    assert_eq!(field_of(&input[..50], true, 0, 50), none);
-    assert_eq!(field_of(&input, false, 0, 0), FieldAt { field: 18, offset: 0 });
-    for (number, place, field) in [(1, 0, 34), (8, 0, 34), (7, 0, 34), (1, 52, 35), (8, usize::MAX, 35)] {
-        assert_eq!(field_of(&input, true, number, place), FieldAt { field, offset: 0 });
-        assert_eq!(field_of(&input, false, number, place), FieldAt { field: 35, offset: 0 });
+    for length in 0..section.len() {
+        assert_eq!(field_of(&section[..length], true, 0, length), none);
+        let last = length.saturating_sub(1);
+        assert_eq!(field_of(&section[..length.max(1)], true, 0, last), field_of(&section, true, 0, last));
     }
-    assert_eq!(field_of(&input, true, 7, 1), FieldAt { field: 1, offset: 1 });
-    assert_eq!(field_of(&[], true, 1, 0), FieldAt { field: 34, offset: 0 });
-    assert_eq!(field_of(&[], true, 2, 0), none);
+}
+
+#[test]
+fn headers_as_a_whole() {
+    let (section, _) = every_part();
+    for (number, place, field) in [(1, 0, 34), (8, 0, 34), (7, 0, 34), (1, 55, 35), (8, usize::MAX, 35)] {
+        for input in [&section[..], &[]] {
+            assert_eq!(field_of(input, true, number, place), FieldAt { field, offset: 0 });
+            assert_eq!(field_of(input, false, number, place), FieldAt { field: 35, offset: 0 });
+        }
+    }
+    assert_eq!(field_of(&section, true, 7, 1), FieldAt { field: 1, offset: 1 });
+    assert_eq!(field_of(&section, true, 0, 0), FieldAt { field: 1, offset: 0 });
+    assert_eq!(field_of(&section, false, 0, 0), FieldAt { field: 18, offset: 0 });
+    assert_eq!(field_of(&[], true, 2, 0), FieldAt::default());
 }
 
 /// Sizes whose sum does not fit in 32 bits, and provider info that is shorter than a type.

@@ -4,7 +4,7 @@ use independent::field::field_of;
 use independent::generate::{case, day, image, image_values, place_case, place_values, request};
 use independent::generate::{section_values, Random};
 use independent::planted::{WrongField, WrongPlace};
-use independent::{listing, planted, queue, read, request as requests, support_copy, write_section};
+use independent::{copies, listing, planted, queue, read, request as requests, support_copy, write_section};
 use independent::{Refusal, Section};
 
 /// In how many of 2,000 cases `differs` says so.
@@ -176,6 +176,15 @@ fn listings() {
         let (mut a, mut b) = (Vec::new(), Vec::new());
         listing::list(&file[..], &mut a).unwrap();
         planted::list(&file[..], &mut b).unwrap();
+        a != b
+    });
+    assert!(found > 100, "{found}");
+    let found = differences(15, |r| {
+        let file = day(r);
+        let (mut a, mut b) = (Vec::new(), Vec::new());
+        listing::list(&file[..], &mut a).unwrap();
+        planted::list_placed(WrongPlace::HeaderStart, &file[..], &mut b).unwrap();
+        assert_eq!(a != b, copies::copy_day(&file) != planted::copy_day_at_headers(&file));
         a != b
     });
     assert!(found > 100, "{found}");

@@ -4,11 +4,14 @@
 use super::section::{self, lengthen_provider};
 use super::values::{self, OwnedValues};
 use super::{Case, Draft, Random};
+use crate::LIMIT;
 
 /// The steps on texts, which fail at any unit.
 const TEXTS: [&str; 2] = ["S11", "P7"];
 /// One case in so many has its MessagePropertiesHeader next to the limit, which takes long.
-const FAR: usize = 5_000;
+const FAR: usize = 3_000;
+/// What is broken in it.
+const FAR_STEPS: [&str; 3] = ["P2", "P3", "P4"];
 /// The most bytes of the others.
 const MOST: usize = 20_000;
 
@@ -16,10 +19,11 @@ const MOST: usize = 20_000;
 pub fn place_case(r: &mut Random) -> Case {
     let mut draft = Draft::valid(r);
     if r.once_in(FAR) {
-        lengthen_provider(r, &mut draft);
-        let step = r.pick(&["P1", "P2", "P3", "P4", "P7"]);
+        let end = LIMIT - r.pick(&[0, 0, 4, 600]);
+        lengthen_provider(r, &mut draft, end);
+        let step = r.pick(&FAR_STEPS);
         draft.break_step(r, step);
-        draft.room = if step == "P1" { draft.room } else { usize::MAX };
+        draft.room = usize::MAX;
     } else {
         for step in steps(r, &section::STEPS, &[]) {
             draft.break_step(r, step);
@@ -35,10 +39,12 @@ pub fn place_case(r: &mut Random) -> Case {
 /// Values for the section writer with a step broken.
 pub fn place_values(r: &mut Random) -> OwnedValues {
     let mut values = OwnedValues::legal(r);
-    if r.once_in(FAR) {
-        values.fill_header(r);
-    }
-    let steps = steps(r, &values::STEPS, &values::RARE);
+    let steps = if r.once_in(FAR) {
+        values.fill_header(r.pick(&[0, 0, -2, -600]));
+        vec![r.pick(&FAR_STEPS)]
+    } else {
+        steps(r, &values::STEPS, &values::RARE)
+    };
     values.broken(r, &steps)
 }
 

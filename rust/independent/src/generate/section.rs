@@ -461,7 +461,10 @@ pub fn long_case(r: &mut Random) -> Case {
     }
     match r.below(4) {
         0 => lengthen_body(r, &mut draft),
-        1 => lengthen_provider(r, &mut draft),
+        1 => {
+            let end = LIMIT - r.pick(&[0, 4, 52, 56, 60, 100]);
+            lengthen_provider(r, &mut draft, end);
+        }
         _ => {}
     }
     let mut bytes = draft.lay_out(r);
@@ -481,12 +484,11 @@ fn lengthen_body(r: &mut Random, draft: &mut Draft) {
     draft.allocation = body;
 }
 
-/// Takes the provider info to the limit or next to it.
-pub(super) fn lengthen_provider(r: &mut Random, draft: &mut Draft) {
+/// Takes the provider info so far that the SecurityHeader ends at `end`.
+pub(super) fn lengthen_provider(r: &mut Random, draft: &mut Draft, end: u64) {
     draft.flags &= !0x40;
     draft.security_first = true;
     let others = draft.security_length() as u64 - padded(draft.provider.into());
-    let end = LIMIT - r.pick(&[0, 4, 52, 56, 60, 100, 600]);
     draft.provider = (end - others) as u32 - r.pick(&[0, 2]);
     if r.once_in(4) {
         draft.provider_zeros = vec![0, r.below(2_000_000)];

@@ -320,17 +320,18 @@ impl OwnedValues {
         if !r.once_in(12) {
             self.provider_info = zero_bytes(LIMIT as usize + r.below(4));
         } else {
-            self.fill_header(r);
+            let over = 2 * r.below(7) as isize - r.pick(&[4, 60]);
+            self.fill_header(over);
         }
     }
 
-    /// Takes the header to the limit or next to it, by provider info that S11 passes.
-    pub(super) fn fill_header(&mut self, r: &mut Random) {
+    /// Takes the header's length so far over the limit, by provider info that S11 passes.
+    pub(super) fn fill_header(&mut self, over: isize) {
         self.security_first = true;
         self.security_flags &= !0x40;
         self.provider_info = Cow::default();
         let room = LIMIT as usize - self.security_length();
-        let mut info = vec![1; room - r.pick(&[4, 60]) + 2 * r.below(7)];
+        let mut info = vec![1; room.saturating_add_signed(over)];
         let null = info.len() - 2;
         info[null..].fill(0);
         self.provider_info = info.into();

@@ -322,8 +322,8 @@ typedef struct ugb_field {
 } ugb_field;
 
 /* What a refusal by reading s is about, or of a record by reading its section: the header for 1, 8 and 7 at place 0;
- * else what holds the byte at its place, as ugb_field_at says. That is for 1 to 12: of a higher number, which is about
- * no field, it is what lies at 0; and a refused writer leaves no section to look into. */
+ * else what holds the byte at its place, as ugb_field_at says. UGB_FIELD_NONE for a number above 12, which is about no
+ * field. (A refused writer leaves no section to look into.) */
 ugb_field ugb_refused_field(const uint8_t *s, size_t s_length, bool security_first, ugb_refusal refusal);
 
 /* What holds the byte at a place of s, as the section's own fixed bytes lay it out, whether it is accepted or refused;

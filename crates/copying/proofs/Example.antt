@@ -7,7 +7,7 @@ use Rattle.octets.specs.Part.{within}
 use Rattle.rules.specs.Judged.{copyOf, masked, partBits, propertiesBits, sectionBits, securityBits}
 use Rattle.rules.specs.Listed.{classes, listed}
 use Rattle.rules.specs.Output.{writerAnswer, writerOutput}
-use Rattle.rules.specs.Place.{propertiesPlace, propertiesRefusal}
+use Rattle.rules.specs.Place.{propertiesPlace, propertiesRefusal, sectionRefusal}
 use Rattle.rules.specs.Properties.{bodyAt, extensionAt, labelContents, labelText, propertiesFields, propertiesLength}
 use Rattle.rules.specs.Properties.{propertiesParts, propertiesRow, propertiesSteps, readProperties}
 use Rattle.rules.specs.Reading.{fieldsAt, headerAt, judge, propertiesNumber, securityHeader, securityNumber, startAt, summarize, summaryAt}
@@ -23,7 +23,7 @@ use Rattle.copying.specs.Record.{answerBehind, bytesBehind, bytesFrom, c
 pub day-copied : copies day ≡ dayCopied
 unfolding le toLe padded padding within copyOf masked partBits propertiesBits sectionBits securityBits classes listed bodyAt
     extensionAt labelContents labelText propertiesFields propertiesLength propertiesParts propertiesRow propertiesSteps
-    readProperties fieldsAt headerAt judge propertiesPlace propertiesRefusal propertiesNumber securityHeader securityNumber startAt summarize summaryAt firstOf
+    readProperties fieldsAt headerAt judge propertiesPlace propertiesRefusal sectionRefusal propertiesNumber securityHeader securityNumber startAt summarize summaryAt firstOf
     fieldBits lowest rowBits noSecurity summaryOf over writerAnswer writerOutput copyAnswer copyOutput supportAnswer supportBytes headBytes nextHead sectionBehind sectionSize
     copies copiesFrom copiesOf room day dayCopied answerBehind bytesBehind bytesFrom copyBytes copyFrom copyRecord sectionAnswer
 day-copied = refl

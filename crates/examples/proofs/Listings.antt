@@ -6,7 +6,7 @@ use Rattle.octets.specs.Padding.{padded, padding}
 use Rattle.octets.specs.Part.{within}
 use Rattle.octets.specs.Text.{isText, lastOnly, units}
 use Rattle.rules.specs.Listed.{classes, listed}
-use Rattle.rules.specs.Place.{propertiesPlace, propertiesRefusal}
+use Rattle.rules.specs.Place.{propertiesPlace, propertiesRefusal, sectionRefusal}
 use Rattle.rules.specs.Properties.{bodyAt, extensionAt, labelContents, labelText, propertiesFields, propertiesLength, propertiesParts, propertiesSteps, readProperties}
 use Rattle.rules.specs.Reading.{fieldsAt, headerAt, judge, propertiesNumber, securityHeader, securityNumber, startAt, summarize, summaryAt}
 use Rattle.rules.specs.Refusal.{firstOf}
@@ -23,7 +23,7 @@ use Rattle.examples.specs.Listings.{firstPrinted, firstRecord, headerPri
 pub listings-hold : map (λ (e : Example). e .told) listings ≡ map (λ (e : Example). e .expected) listings
 unfolding le toLe padded padding within isText lastOnly units classes listed bodyAt extensionAt labelContents
     labelText propertiesFields propertiesLength propertiesParts propertiesSteps readProperties fieldsAt headerAt judge
-    propertiesPlace propertiesRefusal propertiesNumber securityHeader securityNumber startAt summarize summaryAt firstOf noSecurity summaryOf decimal
+    propertiesPlace propertiesRefusal sectionRefusal propertiesNumber securityHeader securityNumber startAt summarize summaryAt firstOf noSecurity summaryOf decimal
     spelled endLine headerLine line lineBytes sizes stopLine linesFrom linesOf listing answerOf nextRecord recordBehind
     nextHead sectionBehind sectionSize properties recordOf firstPrinted firstRecord headerPrinted listings restPrinted stopPrinted
 listings-hold = refl

@@ -1,5 +1,6 @@
 // Reads one section on standard input and prints its summary and its support copy; what is private only where the word
 // `private` asks for it.
+mod field;
 mod line;
 mod page;
 mod private;
@@ -35,7 +36,7 @@ use words::tell_usage;
 fn copy(s: &[u8], security_first: bool, page: &mut [u8], held: Held) -> Held {
     let mut out = section_buffer();
     match support_copy(s, security_first, &mut out) {
-        Output::Refused(r) => refused(r, page, held),
+        Output::Refused(r) => refused(s, security_first, r, page, held),
         Output::Written(n) => bytes(b"support copy: ", within(&out, Bytes(0), n), page, held),
     }
 }
@@ -56,7 +57,7 @@ fn answer(s: &[u8], words: Words, page: &mut [u8]) -> Held {
         is_failed: false,
     };
     match read(s, words.security_first) {
-        Reading::Refused(r) => refused(r, page, none),
+        Reading::Refused(r) => refused(s, words.security_first, r, page, none),
         Reading::Accepted(r) => accepted(s, r, words, page, none),
     }
 }

@@ -1,8 +1,11 @@
-// The line of a section that is refused: the number, the place, and the rule that it breaks.
+// The line of a section that is refused: the number, the place, the field there, and the rule that it breaks.
+use crate::field::words;
 use crate::line::decimal;
 use crate::page::Held;
 use crate::page::piece;
-use octets::count::Bytes;
+use fields::field;
+use fields::field::FieldAt;
+use fields::place::refused_field;
 use rules::refusal;
 use rules::refusal::Refusal;
 
@@ -45,16 +48,33 @@ fn rule(number: u32, page: &mut [u8], held: Held) -> Held {
     }
 }
 
-fn place(at: Bytes, page: &mut [u8], held: Held) -> Held {
-    let held = piece(b" at ", page, held);
-    let held = decimal(at.0 as u64, page, held);
-    piece(b": ", page, held)
+// The field there, where there is one.
+fn named(found: FieldAt, page: &mut [u8], held: Held) -> Held {
+    if found.field == field::NONE {
+        return piece(b": ", page, held);
+    }
+    let held = piece(b" (", page, held);
+    let held = words(found, page, held);
+    piece(b"): ", page, held)
 }
 
-pub(crate) fn refused(r: Refusal, page: &mut [u8], held: Held) -> Held {
+fn number_and_place(r: Refusal, page: &mut [u8], held: Held) -> Held {
     let held = piece(b"refused ", page, held);
     let held = decimal(r.number as u64, page, held);
-    let held = place(r.place, page, held);
+    let held = piece(b" at ", page, held);
+    decimal(r.place.0 as u64, page, held)
+}
+
+// Of the section in `s`.
+pub(crate) fn refused(
+    s: &[u8],
+    security_first: bool,
+    r: Refusal,
+    page: &mut [u8],
+    held: Held,
+) -> Held {
+    let held = number_and_place(r, page, held);
+    let held = named(refused_field(s, security_first, r), page, held);
     let held = rule(r.number, page, held);
     piece(b"\n", page, held)
 }

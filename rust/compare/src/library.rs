@@ -171,14 +171,18 @@ fn refusal(refusal: library::Refusal) -> Refusal {
     Refusal { number: refusal.number, place: refusal.place }
 }
 
-/// The field at a place; for now the independent one, until the safe crate names it.
+/// The field at a place, as the library names it.
 fn field_at(input: &[u8], first: library::First, place: usize) -> FieldAt {
-    independent::field::field_of(input, security_first(first), 0, place)
+    named(library::field_at(input, first, place))
 }
 
-/// The field of a refusal; for now the independent one, until the safe crate names it.
+/// The field of a refusal, as the library names it.
 fn field_of(input: &[u8], first: library::First, refusal: Refusal) -> FieldAt {
-    independent::field::field_of(input, security_first(first), refusal.number, refusal.place)
+    named(library::Refusal { number: refusal.number, place: refusal.place }.field(input, first))
+}
+
+fn named(found: Option<library::FieldAt>) -> FieldAt {
+    found.map_or(FieldAt::default(), |found| FieldAt { field: found.field as u32, offset: found.offset })
 }
 
 fn part(part: library::Part) -> Part {

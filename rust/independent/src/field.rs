@@ -67,8 +67,11 @@ pub struct FieldAt {
 }
 
 /// What the place of a refusal with this number means. With a number that is none, 0, it is the field
-/// or part whose bytes include the byte at `place`.
+/// or part whose bytes include the byte at `place`; a number that no S or P step has means no field.
 pub fn field_of(input: &[u8], security_first: bool, number: u32, place: usize) -> FieldAt {
+    if number > number::LABEL {
+        return FieldAt::default();
+    }
     if means_header(number, place) {
         return whole_header(security_first, place);
     }

@@ -125,10 +125,9 @@ pub fn field_at(input: &[u8], first: First, place: usize) -> Option<FieldAt> {
 
 impl Refusal {
     /// What a refusal by reading `input` is about, or of a record by reading its section: the header for 1, 8 and
-    /// 7 at place 0; else what [`field_at`] finds at its place.
+    /// 7 at place 0; else what [`field_at`] finds at its place. `None` for a number above 12, which is about no field.
     ///
-    /// That is for 1 to 12: of a higher number, which is about no field, it is what lies at 0; and a refused writer
-    /// leaves no section to look into.
+    /// A refused writer leaves no section to look into.
     pub fn field(self, input: &[u8], first: First) -> Option<FieldAt> {
         FieldAt::new(&ffi::refused_field(input, first, self.number, self.place))
     }

@@ -1,5 +1,6 @@
 pub mod Accepted
 pub mod Amended
+pub mod AmendedPlaces
 pub mod Bits
 pub mod Judged
 pub mod Layout

@@ -1,11 +1,15 @@
 -- What 02 amends in the definitions of 01, and that nothing else changes with it.
-use Prim.Native.Nat.{ℕ}
+use Prim.Native.Nat.{ℕ, _+_, _≤_}
 use mathlib.Core.Path.{_≡_}
 use mathlib.Core.Bool.{Bool, true, false, not, _&&_}
 use mathlib.Core.List.{List, [], _∷_}
 use lib.Dec.{eqb}
+use lib.ListN.{length, drop}
+use Rattle.octets.specs.Text.{FirstBreak, breakAt, units}
 use Rattle.rules.specs.Listed.{listed}
-use Rattle.rules.specs.Security.{EB}
+use Rattle.rules.specs.Properties.{propertiesLength}
+use Rattle.rules.specs.Reading.{baseJudge, fieldsAt, judge, labelAt, providerInfoAt, startAt}
+use Rattle.rules.specs.Security.{EB, providerAt, securityFields, securityLength}
 use Rattle.rules.specs.Summary.{authenticationFails, decryptionFails, retired, summaryOf, summaryWith}
 use Rattle.rules.specs.declared.properties.PropertiesFields.{PropertiesFields}
 use Rattle.rules.specs.declared.properties.PropertiesParts.{PropertiesParts}
@@ -51,3 +55,26 @@ pub record VerdictsAmended : Type 0 where
   -- "in summaries only this verdict changes", and C-21, "the summary gets a yes or no for retired": it is 01's but for these two
   pub summary : (first : Bool) (h : SecurityHeader) (f : PropertiesFields) (parts : PropertiesParts)
       → summaryOf first h f parts ≡ withVerdicts (decryptionFails (h .fields) f) (retired (h .fields) f) (baseSummaryOf first h f parts)
+
+-- the place of a text's first unit that breaks its rule: the text begins at an offset, and the unit lies before the end of its header, which is
+-- in the input
+pub record AtUnit (s text : List ℕ) (start place end : ℕ) : Type 0 where
+  pub broken : FirstBreak (units text)
+  pub unit : place ≡ start + breakAt text
+  pub inside : place + 2 ≤ end
+  pub input : end ≤ length s
+
+-- C-17, "Say which byte", beside 01
+pub record PlacesAmended (first : Bool) (s : List ℕ) : Type 0 where
+  -- "Refusals: same numbers, same order.": the same step fails
+  pub number : judge first s .number ≡ baseJudge first s .number
+  -- "for 1, 8 .. the header's start, as now"; where no step fails it is the MessagePropertiesHeader's
+  pub header : listed (0 ∷ 1 ∷ 8 ∷ []) (judge first s .number) ≡ true → judge first s ≡ baseJudge first s
+  -- "For 12 .. it is the first unit that breaks the label rule"
+  pub label : judge first s .number ≡ 12
+      → let p = startAt first s in
+      AtUnit s (labelAt s p) (p + 56) (judge first s .place .0) (p + propertiesLength (fieldsAt first s))
+  -- "the text part of 7": the name behind the 4-byte type; "size 7 the header's start, as now", which is 0
+  pub name : judge first s .number ≡ 7 → ¬ (judge first s .place .0 ≡ 0)
+      → let f = securityFields s in
+      AtUnit s (drop 4 (providerInfoAt s)) (providerAt f + 4) (judge first s .place .0) (securityLength f)

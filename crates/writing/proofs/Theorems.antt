@@ -19,6 +19,7 @@ use Rattle.rules.specs.declared.section.Section.{Section}
 use Rattle.writing.specs.Given.{Given}
 use Rattle.writing.specs.Theorems.{WellFormed, Writing, WrittenAgain, WrittenOutput, givenOf, hidden}
 use Rattle.writing.specs.Writing.{sectionBytes, writeAnswer, writeBytes, writeRefusal}
+use Rattle.writing.proofs.Laws.Placed.{write-number}
 use Rattle.writing.proofs.Laws.Again.{Way, accepted, accepted-again}
 use Rattle.writing.proofs.Laws.Carried.{properties-carried, security-carried}
 use Rattle.writing.proofs.Laws.Hidden.{hidden-identity, hidden-properties, hidden-security, properties-hidden, security-hidden}
@@ -89,6 +90,7 @@ pub writing : Writing
 unfolding writeAnswer writeBytes writerAnswer supportAnswer supportBytes copyAnswer copyOutput copyOf read
 writing =
     record {
+      sameStep = write-number;
       written = written;
       writtenAgain = written-again;
       supportCopy = λ first s out r b e.

@@ -15,7 +15,7 @@ use Rattle.rules.specs.declared.section.Output.the-variants.{Written}
 use Rattle.rules.specs.declared.section.Reading.the-variants.{Accepted}
 use Rattle.rules.specs.declared.section.Section.{Section}
 use Rattle.writing.specs.Given.{Given, propertiesGiven, securityGiven}
-use Rattle.writing.specs.Writing.{layoutLength, writeAnswer, writeBytes}
+use Rattle.writing.specs.Writing.{baseWriteRefusal, layoutLength, writeAnswer, writeBytes, writeRefusal}
 
 -- the values fit their fields, as their types in the code have it
 pub record WellFormed (g : Given) : Type 0 where
@@ -120,6 +120,8 @@ pub record WrittenAgain (s out : List ℕ) (r : Section) : Type 0 where
       ≡ drop (r .summary .parts .«section_length» .0) out
 
 pub record Writing : Type 0 where
+  -- C-17, "same numbers, same order": with its places the same step refuses as in 01
+  pub sameStep : (g : Given) → writeRefusal g .number ≡ baseWriteRefusal g .number
   pub written : (g : Given) (out : List ℕ) (n : Bytes) → WellFormed g → writeAnswer g out ≡ Written n → WrittenOutput g out n
   pub writtenAgain : (first : Bool) (s out : List ℕ) (r : Section) → Octets s → read first s ≡ Accepted r
       → r .summary .parts .«section_length» .0 ≤ length out → WrittenAgain s out r

@@ -2,7 +2,7 @@
 #ifndef SECTION_H
 #define SECTION_H
 
-#include "steps.h"
+#include "place.h"
 
 static inline uint32_t judge_security(const uint8_t *s, size_t s_length, security *x)
 {
@@ -53,11 +53,13 @@ static inline ugb_refusal judge(const uint8_t *s, size_t s_length, bool security
     if (security_first) {
         number = judge_security(s, s_length, first);
         if (number != UGB_ACCEPTED)
-            return (ugb_refusal){number, 0};
+            return (ugb_refusal){number, security_place(number, first, s, NULL)};
         second->at = first->at[SECURITY_PARTS];
     }
     number = judge_properties(s, s_length, second);
-    return (ugb_refusal){number, number == UGB_ACCEPTED ? 0 : second->at};
+    if (number != UGB_ACCEPTED)
+        return (ugb_refusal){number, properties_place(number, second, s + second->at + PROPERTIES_FIXED)};
+    return (ugb_refusal){UGB_ACCEPTED, 0};
 }
 
 #endif

@@ -1,5 +1,5 @@
+#include "place.h"
 #include "put.h"
-#include "steps.h"
 #include "tuned.h"
 
 typedef const uint8_t *parts[SECURITY_PARTS];
@@ -75,12 +75,12 @@ ugb_output tuned_write_section(ugb_section_values values, const uint8_t *sender_
     if (values.security_first) {
         number = judge_security(&first, sizes, parts);
         if (number != UGB_ACCEPTED)
-            return refused(number, 0);
+            return refused(number, security_place(number, &first, NULL, parts[PROVIDER]));
         second.at = first.at[SECURITY_PARTS];
     }
     number = judge_properties(&second, label);
     if (number != UGB_ACCEPTED)
-        return refused(number, second.at);
+        return refused(number, properties_place(number, &second, label));
     if (second.length > out_length)
         return refused(UGB_OUTPUT_SHORT, 0);
     put32(out + second.length - 4, 0); /* the padding at the end */

@@ -62,6 +62,7 @@ fn compare(
         let wanted = match (refusal.number, refusal.place) {
             (1 | 7 | 8, 0) if security_first => FieldAt { field: 34, offset: 0 },
             (1 | 8, _) | (7, 0) => FieldAt { field: 35, offset: 0 },
+            (13.., _) => FieldAt::default(),
             (_, place) => sides.one.field_at(input, security_first, place),
         };
         agree("a refusal's field", &found, &wanted)?;

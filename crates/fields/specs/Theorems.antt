@@ -8,7 +8,7 @@ use lib.Dec.{eqb}
 use Rattle.octets.specs.Text.{breakAt}
 use Rattle.rules.specs.Listed.{listed}
 use Rattle.rules.specs.Properties.{propertiesLength}
-use Rattle.rules.specs.Reading.{judge, labelAt, providerInfoAt, startAt}
+use Rattle.rules.specs.Reading.{judge, labelAt, providerInfoAt, securityNumber, startAt}
 use Rattle.rules.specs.Security.{DP, securityFields, securityLength}
 use Rattle.rules.specs.declared.properties.PropertiesFields.{PropertiesFields}
 use Rattle.rules.specs.declared.security.SecurityFields.{SecurityFields}
@@ -41,3 +41,10 @@ pub record Named (first : Bool) (s : List ℕ) : Type 0 where
   pub nine : judge first s .number ≡ 9 → found first s ≡ field 19 0
   pub ten : judge first s .number ≡ 10 → found first s ≡ field 20 0
   pub eleven : judge first s .number ≡ 11 → found first s ≡ field 25 0
+  -- "For 12 .. the first unit that breaks the label rule": a unit of the label
+  pub twelve : judge first s .number ≡ 12 → found first s ≡ field 30 (breakAt (labelAt s (startAt first s)))
+  -- "the text part of 7": a unit of the provider name; "size 7 the header's start"
+  pub text : judge first s .number ≡ 7 → ¬ (judge first s .place .0 ≡ 0) → found first s ≡ field 16 (breakAt (drop 4 (providerInfoAt s)))
+  pub size : judge first s .number ≡ 7 → judge first s .place .0 ≡ 0 → found first s ≡ field 34 0
+  -- "for 1, 8 .. the header's start": the SecurityHeader, where one of its steps has failed
+  pub header : listed (1 ∷ 8 ∷ []) (judge first s .number) ≡ true → found first s ≡ field (cond (eqb (securityNumber first s) 0) 35 34) 0

@@ -21,9 +21,11 @@ use Rattle.copying.specs.Example.{day, dayCopied}
 use Rattle.copying.specs.Record.{answerBehind, bytesBehind, bytesFrom, copyBytes, copyFrom, copyRecord, sectionAnswer}
 
 pub day-copied : copies day ≡ dayCopied
-unfolding le toLe padded padding within copyOf masked partBits propertiesBits sectionBits securityBits classes listed bodyAt
-    extensionAt labelContents labelText propertiesFields propertiesLength propertiesParts propertiesRow propertiesSteps
-    readProperties fieldsAt headerAt judge propertiesPlace propertiesRefusal sectionRefusal propertiesNumber securityHeader securityNumber startAt summarize summaryAt firstOf
-    fieldBits lowest rowBits noSecurity summaryOf over writerAnswer writerOutput copyAnswer copyOutput supportAnswer supportBytes headBytes nextHead sectionBehind sectionSize
-    copies copiesFrom copiesOf room day dayCopied answerBehind bytesBehind bytesFrom copyBytes copyFrom copyRecord sectionAnswer
+unfolding le toLe padded padding within copyOf masked partBits propertiesBits sectionBits securityBits classes listed
+    bodyAt extensionAt labelContents labelText propertiesFields propertiesLength propertiesParts propertiesRow
+    propertiesSteps readProperties fieldsAt headerAt judge propertiesPlace propertiesRefusal sectionRefusal
+    propertiesNumber securityHeader securityNumber startAt summarize summaryAt firstOf fieldBits lowest rowBits
+    noSecurity summaryOf over writerAnswer writerOutput copyAnswer copyOutput supportAnswer supportBytes headBytes
+    nextHead sectionBehind sectionSize copies copiesFrom copiesOf room day dayCopied answerBehind bytesBehind
+    bytesFrom copyBytes copyFrom copyRecord sectionAnswer
 day-copied = refl

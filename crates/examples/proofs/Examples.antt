@@ -29,10 +29,11 @@ use Rattle.examples.specs.Examples.{Example, examples, imageTold, labelT
 use Rattle.examples.specs.Inputs.{image, nothingGiven, properties, security, text, titled}
 
 pub examples-hold : map (λ (e : Example). e .told) examples ≡ map (λ (e : Example). e .expected) examples
-unfolding le toLe padded padding within breakAt firstBreak firstZero isText lastOnly unitBytes units classes listed bodyAt extensionAt
-    labelContents labelText propertiesFields propertiesLength propertiesParts propertiesSteps readProperties
-    propertiesRow fieldsAt headerAt judge namePlace propertiesPlace propertiesRefusal sectionRefusal securityPlace securityRefusal propertiesNumber securityHeader securityNumber startAt summarize summaryAt
-    firstOf fieldBytes rowBytes allEmpty certAt identityHead identitySize keyAt providerAt providerSize providerText
+unfolding le toLe padded padding within breakAt firstBreak firstZero isText lastOnly unitBytes units classes listed
+    bodyAt extensionAt labelContents labelText propertiesFields propertiesLength propertiesParts propertiesSteps
+    readProperties propertiesRow fieldsAt headerAt judge namePlace propertiesPlace propertiesRefusal sectionRefusal
+    securityPlace securityRefusal propertiesNumber securityHeader securityNumber startAt summarize summaryAt firstOf
+    fieldBytes rowBytes allEmpty certAt identityHead identitySize keyAt providerAt providerSize providerText
     readSecurity securityContents securityFields securityLength securityParts securitySteps signatureAt noSecurity
     summaryOf propertiesFrom paddedPart propertiesBytes propertiesFixed sectionBytes flags pairPasses suffix formatOf
     imageFrom imageOf imageSteps partAt readImage fixedSize formatSteps isString stringStep valueSteps allocationOr

@@ -23,7 +23,8 @@ use Rattle.examples.specs.Listings.{firstPrinted, firstRecord, headerPri
 pub listings-hold : map (λ (e : Example). e .told) listings ≡ map (λ (e : Example). e .expected) listings
 unfolding le toLe padded padding within isText lastOnly units classes listed bodyAt extensionAt labelContents
     labelText propertiesFields propertiesLength propertiesParts propertiesSteps readProperties fieldsAt headerAt judge
-    propertiesPlace propertiesRefusal sectionRefusal propertiesNumber securityHeader securityNumber startAt summarize summaryAt firstOf noSecurity summaryOf decimal
-    spelled endLine headerLine line lineBytes sizes stopLine linesFrom linesOf listing answerOf nextRecord recordBehind
-    nextHead sectionBehind sectionSize properties recordOf firstPrinted firstRecord headerPrinted listings restPrinted stopPrinted
+    propertiesPlace propertiesRefusal sectionRefusal propertiesNumber securityHeader securityNumber startAt summarize
+    summaryAt firstOf noSecurity summaryOf decimal spelled endLine headerLine line lineBytes sizes stopLine linesFrom
+    linesOf listing answerOf nextRecord recordBehind nextHead sectionBehind sectionSize properties recordOf
+    firstPrinted firstRecord headerPrinted listings restPrinted stopPrinted
 listings-hold = refl

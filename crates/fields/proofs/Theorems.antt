@@ -25,7 +25,7 @@ use Rattle.rules.specs.declared.refusal.Refusal.{Refusal}
 use Rattle.rules.specs.declared.security.SecurityFields.{SecurityFields}
 use Rattle.rules.proofs.Laws.Accepted.{security-number}
 use Rattle.rules.proofs.Laws.AmendedPlaces.{of-properties, of-security, places-amended, properties-other, security-other}
-use Rattle.rules.proofs.Laws.Place.{properties-short, security-short}
+use Rattle.rules.proofs.Laws.Place.{behind-header, properties-short, security-first, security-short}
 use Rattle.reading.specs.Fields.{propertiesRead, securityRead}
 use Rattle.reading.proofs.Laws.Fields.{properties-read, security-read}
 use Rattle.fields.specs.Field.{behindSecurity, field, fieldAt, fieldIn, ofHeader, propertiesWidths, refusedField, securityWidths, widths}
@@ -60,18 +60,6 @@ behind false s z = refl
 or-true : (a b : Bool) → b ≡ true → (a || b) ≡ true
 or-true true b e = refl
 or-true false b e = e
-
--- a SecurityHeader is never empty
-not-empty : (first : Bool) (s : List ℕ) → first ≡ true → ¬ (startAt first s ≡ 0)
-unfolding startAt headerAt securityHeader securityParts securityLength providerAt certAt signatureAt keyAt
-not-empty true s e z = omega arith
-not-empty false s e z = true≢false (sym e)
-
--- a number of S1 to S11 says that a SecurityHeader stands first
-one : (b : Bool) (s : List ℕ) → ¬ (securityNumber b s ≡ 0) → b ≡ true
-unfolding securityNumber
-one true s some = refl
-one false s some = absurd (some refl)
 
 -- the label and what is behind it
 abbrev labelParts : PropertiesFields → List ℕ
@@ -119,7 +107,7 @@ module _ (first : Bool) (s : List ℕ) where
           absurd (properties-other s (startAt first s) k low high (sym (ap (λ (r : Refusal). r .number) (of-properties first s z)) ∙ e))
       go false f =
           let other = eqb-false (securityNumber first s) 0 f in
-          (one first s other, sym (ap (λ (r : Refusal). r .number) (of-security first s other)) ∙ e)
+          (security-first first s other, sym (ap (λ (r : Refusal). r .number) (of-security first s other)) ∙ e)
 
   -- the refusal of a P step with its place, and the field there
   last-named : (k o : ℕ) → 8 < k → k < 13 → o < 56 → judge first s .number ≡ k → ((label : List ℕ) → propertiesPlace k label ≡ o)
@@ -270,12 +258,12 @@ module _ (first : Bool) (s : List ℕ) where
       ∙ go (eqb (securityNumber first s) 0) refl
     where
       start : (b : Bool) → b ≡ first → cond (b && eqb (startAt first s) 0) (field 34 0) (field 35 0) ≡ field 35 0
-      start true g = rw (ne-eqb (startAt first s) 0 (not-empty first s (sym g)))
+      start true g = rw (ne-eqb (startAt first s) 0 (λ z. omega (arith, z, behind-header first s (sym g))))
       start false g = refl
 
       go : (b : Bool) → eqb (securityNumber first s) 0 ≡ b → whole (baseJudge first s) ≡ field (cond b 35 34) 0
       go true g = rw g (start first refl)
-      go false g = rw (g, one first s (eqb-false (securityNumber first s) 0 g))
+      go false g = rw (g, security-first first s (eqb-false (securityNumber first s) 0 g))
 
   pub named : Named first s
   unfolding securityPlace propertiesPlace fieldIn securityWidths propertiesWidths widths width securityRow propertiesRow

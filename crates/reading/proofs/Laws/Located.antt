@@ -1,7 +1,7 @@
 -- What the code finds of a refusal: its fields and its label are the definition's, unless the fixed bytes are not there; then the number is 1.
 use Prim.Native.Nat.{ℕ, _+_, _≤_, _<_, min}
 use mathlib.Core.Path.{_≡_, refl, sym, ap, _∙_}
-use mathlib.Core.Bool.{Bool, true, false, _&&_, cond, and-eq-true-iff, true≢false}
+use mathlib.Core.Bool.{Bool, true, false, _&&_, cond, and-eq-true-iff}
 use mathlib.Core.List.{List}
 use native.Mathlib.Omega.{arith}
 use borrow.Author.Tests.{eqb-true, ltb-false, ltb-true}
@@ -9,33 +9,17 @@ use lib.ListN.{length, drop}
 use lib.Dec.{eqb, ltb}
 use Rattle.rules.specs.Place.{headerRefusal, propertiesPlace, propertiesRefusal, refusalAt, securityPlace}
 use Rattle.rules.specs.Properties.{propertiesFields, propertiesParts}
-use Rattle.rules.specs.Reading.{baseJudge, headerAt, judge, labelAt, propertiesNumber, providerInfoAt, securityHeader, securityNumber, startAt}
+use Rattle.rules.specs.Reading.{baseJudge, judge, labelAt, propertiesNumber, providerInfoAt, securityNumber, startAt}
 use Rattle.rules.specs.Refusal.{limit, refusal}
-use Rattle.rules.specs.Security.{certAt, keyAt, providerAt, securityFields, securityLength, securityParts, securitySteps, signatureAt}
+use Rattle.rules.specs.Security.{providerAt, securityFields, securityLength, securityParts, securitySteps}
 use Rattle.rules.specs.Summary.{partOf}
 use Rattle.rules.specs.declared.properties.PropertiesFields.{PropertiesFields}
 use Rattle.rules.specs.declared.refusal.Refusal.{Refusal}
 use Rattle.rules.specs.declared.security.SecurityFields.{SecurityFields}
-use Rattle.rules.proofs.Laws.Place.{in-properties, in-security, properties-short, refused-at, security-short, security-small}
+use Rattle.rules.proofs.Laws.Place.{behind-header, in-properties, in-security, no-number, properties-short, refused-at, security-first}
+use Rattle.rules.proofs.Laws.Place.{security-short, security-small}
 use Rattle.reading.specs.Fields.{propertiesRead, securityRead}
 use Rattle.reading.proofs.Laws.Fields.{properties-read, security-read, start-passed}
-
--- a SecurityHeader is never empty, and where none stands first none is refused
-behind-header : (first : Bool) (s : List ℕ) → first ≡ true → 0 < startAt first s
-unfolding startAt headerAt securityHeader securityParts securityLength providerAt certAt signatureAt keyAt
-behind-header true s e = omega arith
-behind-header false s e = absurd (true≢false (sym e))
-
-no-number : (first : Bool) (s : List ℕ) → first ≡ false → securityNumber first s ≡ 0
-unfolding securityNumber
-no-number true s e = absurd (true≢false e)
-no-number false s e = refl
-
--- a number says that one stands first
-security-first : (first : Bool) (s : List ℕ) → ¬ (securityNumber first s ≡ 0) → securityNumber first s ≡ securityNumber true s
-unfolding securityNumber
-security-first true s some = refl
-security-first false s some = absurd (some refl)
 
 seven : ¬ (_≡_ {A = ℕ} 7 0)
 seven e = omega arith
@@ -112,7 +96,7 @@ module _ (first : Bool) (s : List ℕ) (r : Refusal) (e : r ≡ baseJudge first 
       (behind-header first s) (no-number first s) r told
     where
       small : number ≡ 7 → securitySteps (securityFields s) ≡ 0 → securityLength (securityFields s) ≤ limit
-      small q = security-small s (sym (security-first first s (λ z. seven (sym q ∙ z))) ∙ q)
+      small q = security-small s (sym (ap (λ (b : Bool). securityNumber b s) (security-first first s (λ z. seven (sym q ∙ z)))) ∙ q)
 
       same : (b : Bool) → (first && eqb (r .place .0) 0) ≡ b
           → cond b (securityAt f) (propertiesAt h)

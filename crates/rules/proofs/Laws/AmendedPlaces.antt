@@ -24,7 +24,7 @@ use Rattle.rules.specs.declared.properties.PropertiesFields.{PropertiesF
 use Rattle.rules.specs.declared.refusal.Refusal.{Refusal}
 use Rattle.rules.specs.declared.security.SecurityFields.{SecurityFields}
 use Rattle.rules.proofs.Laws.Accepted.{first-next, judge-number, passed, security-fits}
-use Rattle.rules.proofs.Laws.Place.{by-size, by-text}
+use Rattle.rules.proofs.Laws.Place.{by-size, by-text, security-first}
 
 -- a list of steps that did not give the number k: it passed, and the steps after it give it
 first-other : (steps next k : ℕ) → ¬ (steps ≡ k) → firstOf steps next ≡ k → (steps ≡ 0) × (next ≡ k)
@@ -170,11 +170,6 @@ security-other true s k high e =
     omega arith
 security-other false s k high e = omega arith
 
-pub security-first : (first : Bool) (s : List ℕ) → ¬ (securityNumber first s ≡ 0) → securityNumber first s ≡ securityNumber true s
-unfolding securityNumber
-security-first true s some = refl
-security-first false s some = absurd (some refl)
-
 -- the header's start for 0, 1 and 8
 at-start : (n : ℕ) → listed (0 ∷ 1 ∷ 8 ∷ []) n ≡ true
     → (propertiesPlace n ≡ λ (label : List ℕ). 0) × (securityPlace n ≡ λ (f : SecurityFields) (at : ℕ) (info : List ℕ). 0)
@@ -236,7 +231,7 @@ module _ (first : Bool) (s : List ℕ) where
           let steps = eqb-true (securitySteps f) 0 h in
           let place = ap (λ (r : Refusal). r .place .0) j ∙ by-text f (providerAt f) (providerInfoAt s) (securityNumber first s) seven steps in
           subst (λ (k : ℕ). AtUnit s (drop 4 (providerInfoAt s)) (providerAt f + 4) k (securityLength f)) (sym place)
-          (name-broken s (sym (security-first first s other) ∙ seven) steps)
+          (name-broken s (sym (ap (λ (b : Bool). securityNumber b s) (security-first first s other)) ∙ seven) steps)
       go false false g h =
           let j = of-security (eqb-false (securityNumber first s) 0 g) in
           let seven : securityNumber first s ≡ 7 = sym (ap (λ (r : Refusal). r .number) j) ∙ e in

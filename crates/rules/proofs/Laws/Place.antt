@@ -1,17 +1,17 @@
 -- Places: of a 7 by its cause, and that no place of a unit is above the limit.
 use Prim.Native.Nat.{ℕ, _+_, _≤_, _<_, min}
 use mathlib.Core.Path.{_≡_, refl, sym, ap, _∙_}
-use mathlib.Core.Bool.{Bool, true, false, _&&_, cond, and-eq-true-iff, and-true}
+use mathlib.Core.Bool.{Bool, true, false, _&&_, cond, and-eq-true-iff, and-true, true≢false}
 use mathlib.Core.List.{List}
 use native.Mathlib.Omega.{arith}
 use borrow.Author.Tests.{eq-eqb, eqb-false, eqb-true, lt-ltb, ltb-false, ne-eqb}
 use lib.Dec.{eqb, ltb}
 use lib.ListN.{length}
 use Rattle.rules.specs.Place.{headerRefusal, namePlace, propertiesRefusal, refusalAt, sectionRefusal, securityPlace, securityRefusal}
-use Rattle.rules.specs.Reading.{propertiesNumber, securityNumber}
+use Rattle.rules.specs.Reading.{headerAt, propertiesNumber, securityHeader, securityNumber, startAt}
 use Rattle.rules.specs.Refusal.{firstOf, limit, refusal}
 use Rattle.rules.specs.Properties.{readProperties}
-use Rattle.rules.specs.Security.{providerAt, readSecurity, securityFields, securityLength, securitySteps}
+use Rattle.rules.specs.Security.{certAt, keyAt, providerAt, readSecurity, securityFields, securityLength, securityParts, securitySteps, signatureAt}
 use Rattle.rules.proofs.Laws.Accepted.{first-next, passed}
 use Rattle.rules.specs.declared.refusal.Refusal.{Refusal}
 use Rattle.rules.specs.declared.security.SecurityFields.{SecurityFields}
@@ -99,6 +99,22 @@ module _ (first : Bool) (n : ℕ) (f : SecurityFields) (info : List ℕ) (m p : 
           let a = in-properties first n m p long none r e t in
           let at : min (limit + 1) (r .place .0) ≡ p = omega (arith, a .2, start (a .0)) in
           rw (at, a .1, a .2, eq-eqb n 0 (a .0))
+
+-- a SecurityHeader is never empty
+pub behind-header : (first : Bool) (s : List ℕ) → first ≡ true → 0 < startAt first s
+unfolding startAt headerAt securityHeader securityParts securityLength providerAt certAt signatureAt keyAt
+behind-header true s e = omega arith
+behind-header false s e = absurd (true≢false (sym e))
+
+-- it has a number only where one stands first
+pub no-number : (first : Bool) (s : List ℕ) → first ≡ false → securityNumber first s ≡ 0
+unfolding securityNumber
+no-number true s e = absurd (true≢false e)
+no-number false s e = refl
+
+pub security-first : (first : Bool) (s : List ℕ) → ¬ (securityNumber first s ≡ 0) → first ≡ true
+security-first true s some = refl
+security-first false s some = absurd (some (no-number false s refl))
 
 module _ (s : List ℕ) where
   pub security-small : securityNumber true s ≡ 7 → let f = securityFields s in securitySteps f ≡ 0 → securityLength f ≤ limit

@@ -1,4 +1,4 @@
-// Refusals: 01's number, and the place, which is the offset of the header being read.
+// Refusals: 01's number, and the place of what failed.
 use octets::count::Bytes;
 
 #[repr(C)]

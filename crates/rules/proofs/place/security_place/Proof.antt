@@ -1,6 +1,7 @@
 -- Each return is the place of the number that was asked for; of a 7, by whether S2 to S7 passed.
 use mathlib.Core.Path.{sym, _∙_}
 use borrow.Author.Needs.{needs}
+use borrow.Author.Tests.{eq-eqb}
 use Rattle.octets.proofs.Laws.Steps.{steps, the}
 use Rattle.rules.specs.Place.{securityPlace}
 use Rattle.rules.proofs.Laws.Place.{by-size, by-text}
@@ -22,7 +23,7 @@ unfolding securityPlace
 security-place-spec =
     tie.close
     (tie.spec
-    (λ c. search steps depth 20)
+    (λ c. rw (the tie.Then1 (search) .if1 .taken, eq-eqb _ 0 (c .if2 .taken)))
     (λ c. search steps depth 20)
     (λ c. search steps depth 20)
     (λ c. search steps depth 20)

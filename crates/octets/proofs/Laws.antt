@@ -3,6 +3,7 @@ pub mod Number
 pub mod Over
 pub mod Padding
 pub mod Part
+pub mod Same
 pub mod Steps
 pub mod Text
 pub mod UnitBytes

@@ -4,7 +4,7 @@ use crate::properties::label_at;
 use crate::section::base_judge;
 use crate::section::header_at;
 use crate::view::part_of;
-use octets::part::same;
+use octets::same::same;
 use rules::properties::PropertiesFields;
 use rules::refusal;
 use rules::security::SecurityFields;

@@ -1,5 +1,5 @@
 // The words that a program is started with.
-use octets::part::same;
+use octets::same::same;
 
 // No word that a program knows is longer.
 const WORD_ROOM: usize = 32;

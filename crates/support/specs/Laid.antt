@@ -1,4 +1,5 @@
--- What the copies of the headers require: a header that ends where its layout says, within both slices.
+-- What the copies of the headers require, where they are made and where they are compared: a header that ends where its layout says, within
+-- both slices.
 -- That the runs lie in order follows; it is said so that their offsets need no law of the layout.
 use Prim.Native.Nat.{ℕ, _+_, _≤_}
 use mathlib.Core.Path.{_≡_}
@@ -7,10 +8,12 @@ use mathlib.Core.List.{List}
 use lib.ListN.{length}
 use Rattle.rules.specs.Judged.{judgedIdentity}
 use Rattle.rules.specs.Properties.{labelBytes, propertiesLength}
-use Rattle.rules.specs.Reading.{fieldsAt, judge, startAt, summaryAt}
+use Rattle.rules.specs.Reading.{judge, startAt}
 use Rattle.rules.specs.Security.{providerAt, securityLength}
 use Rattle.rules.specs.declared.properties.PropertiesFields.{PropertiesFields}
 use Rattle.rules.specs.declared.security.SecurityFields.{SecurityFields}
+use Rattle.support.specs.Placed.{placedAt}
+use Rattle.support.specs.declared.placed.Placed.{Placed}
 
 pub record SecurityLaid (f : SecurityFields) (provider size : ℕ) (s out : List ℕ) : Type 0 where
   pub start : provider ≡ providerAt f
@@ -33,9 +36,7 @@ pub record HeaderLaid (first : Bool) (at : ℕ) (s out : List ℕ) : Type 0 wher
   pub output : at ≤ length out
 
 -- with room for its copy
-pub record SectionLaid (first : Bool) (f : PropertiesFields) (at size : ℕ) (s out : List ℕ) : Type 0 where
+pub record SectionLaid (first : Bool) (section : Placed) (s out : List ℕ) : Type 0 where
   pub passed : judge first s .number ≡ 0
-  pub fields : f ≡ fieldsAt first s
-  pub start : at ≡ startAt first s
-  pub end : size ≡ summaryAt first s .parts .«section_length» .0
-  pub output : size ≤ length out
+  pub placed : section ≡ placedAt first s
+  pub output : section .end .0 ≤ length out

@@ -2,13 +2,13 @@
 use crate::header::copy_properties;
 use crate::header::copy_security;
 use crate::header::provider_start;
+use crate::placed::Placed;
 use octets::count::Bytes;
 use reading::properties::properties_fields;
 use reading::section::base_judge;
 use reading::section::judge;
 use reading::section::properties_start;
 use reading::security::security_fields;
-use rules::properties::PropertiesFields;
 use rules::properties::section_end;
 use rules::refusal;
 use rules::section::Output;
@@ -36,24 +36,17 @@ fn copy_header(s: &[u8], security_first: bool, at: Bytes, out: &mut [u8])
     copy_security(s, security, provider_start(security, at), at, out);
 }
 
-// The copy of a section that passed every step, its MessagePropertiesHeader at `at`.
-fn copy_section(
-    s: &[u8],
-    security_first: bool,
-    properties: PropertiesFields,
-    at: Bytes,
-    end: Bytes,
-    out: &mut [u8],
-)
-    requires { ⌜ SectionLaid «security_first» properties (at .0) (end .0) (now s) (now out) ⌝ }
+// The copy of a section that passed every step.
+fn copy_section(s: &[u8], security_first: bool, section: Placed, out: &mut [u8])
+    requires { ⌜ SectionLaid «security_first» section (now s) (now out) ⌝ }
     ensures { λ _. ⌜ now (out .exit) ≡ over (copyOf (summaryAt «security_first» (now (s .entry))) (now (s .entry))) (now (out .entry)) ⌝ }
 {
-    let start = at.0;
-    copy_header(s, security_first, at, out);
+    let start = section.start.0;
+    copy_header(s, security_first, section.start, out);
     copy_properties(
         &s[start..],
-        properties,
-        Bytes(end.0 - start),
+        section.properties,
+        Bytes(section.end.0 - start),
         &mut out[start..],
     );
 }
@@ -67,12 +60,17 @@ pub fn support_copy(s: &[u8], security_first: bool, out: &mut [u8]) -> Output
     if base_judge(s, security_first).number != refusal::PASSED {
         return Output::Refused(judge(s, security_first));
     }
-    let at = properties_start(s, security_first);
-    let properties = properties_fields(s, at);
-    let end = section_end(properties, at);
+    let start = properties_start(s, security_first);
+    let properties = properties_fields(s, start);
+    let end = section_end(properties, start);
     if out.len() < end.0 {
         return output_short();
     }
-    copy_section(s, security_first, properties, at, end, out);
+    let section = Placed {
+        start,
+        properties,
+        end,
+    };
+    copy_section(s, security_first, section, out);
     Output::Written(end)
 }

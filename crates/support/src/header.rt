@@ -1,5 +1,10 @@
-// The headers of a copy: the runs of their masks, in order.
+// The headers of a copy: the runs of their masks, in order, written and looked for.
 use crate::run::hide;
+use crate::run::is_hidden;
+use crate::run::is_hidden_long;
+use crate::run::is_kept;
+use crate::run::is_kept_long;
+use crate::run::is_low_four;
 use crate::run::keep;
 use crate::run::low_four;
 use octets::count::Bytes;
@@ -8,8 +13,15 @@ use rules::properties::PropertiesFields;
 use rules::security::AU;
 use rules::security::SecurityFields;
 ghost use mathlib.Core.Path.{_≡_};
+ghost use mathlib.Core.Bool.{true};
+ghost use mathlib.Core.Logic.{_↔_};
+ghost use mathlib.Core.List.{_++_};
+ghost use Prim.Native.Nat.{_+_, _≤_};
+ghost use lib.ListN.{length, replicate, take};
 ghost use Rattle.octets.specs.Over.{over};
 ghost use Rattle.rules.specs.Judged.{judgedIdentity, masked, propertiesMask, securityMask};
+ghost use Rattle.rules.specs.Properties.{propertiesRow};
+ghost use Rattle.rules.specs.Row.{rowBits};
 ghost use Rattle.rules.specs.Security.{providerAt, securityLength};
 ghost use Rattle.support.specs.Laid.{PropertiesLaid, SecurityLaid};
 
@@ -60,6 +72,30 @@ pub(crate) fn copy_security(
     hide(out, Bytes(padding), Bytes(size.0 - padding));
 }
 
+// The runs looked for: those of the fixed bytes have constant lengths, so that no loop is left of them.
+pub(crate) fn is_security_copy(
+    s: &[u8],
+    f: SecurityFields,
+    provider: Bytes,
+    size: Bytes,
+    proposed: &[u8],
+) -> bool
+    requires { ⌜ SecurityLaid f (provider .0) (size .0) (now s) (now proposed) ⌝ }
+    ensures { λ r. ⌜ (r ≡ true) ↔ (take (size .0) (now (proposed .entry)) ≡ masked (securityMask f) (now (s .entry))) ⌝ }
+{
+    let identity = judged_identity(f);
+    let info = f.provider_info_size;
+    let hidden = 16 + identity.0;
+    let padding = provider.0 + info.0;
+    is_kept(s, proposed, Bytes(0), Bytes(1))
+        & is_low_four(s, proposed, Bytes(1))
+        & is_kept(s, proposed, Bytes(2), Bytes(14))
+        & is_kept(s, proposed, Bytes(16), identity)
+        & is_hidden_long(proposed, Bytes(hidden), Bytes(provider.0 - hidden))
+        & is_kept_long(s, proposed, provider, info)
+        & is_hidden(proposed, Bytes(padding), Bytes(size.0 - padding))
+}
+
 // The runs of `propertiesMask`, the last fixed fields and the label in one. Both slices begin at the
 // MessagePropertiesHeader, which is `size` bytes long with all that follows it.
 pub(crate) fn copy_properties(s: &[u8], f: PropertiesFields, size: Bytes, out: &mut [u8])
@@ -75,4 +111,38 @@ pub(crate) fn copy_properties(s: &[u8], f: PropertiesFields, size: Bytes, out: &
     hide(out, Bytes(28), Bytes(4));
     keep(s, out, Bytes(32), Bytes(24 + label));
     hide(out, Bytes(hidden), Bytes(size.0 - hidden));
+}
+
+// Its fixed bytes and label.
+fn is_head_copy(s: &[u8], label: Bytes, proposed: &[u8]) -> bool
+    requires { ⌜ 56 + label .0 ≤ length (now s) ⌝ }
+    requires { ⌜ 56 + label .0 ≤ length (now proposed) ⌝ }
+    ensures { λ r. ⌜ (r ≡ true)
+        ↔ (take (56 + label .0) (now (proposed .entry)) ≡ masked (rowBits 0 propertiesRow ++ replicate (label .0) 8) (now (s .entry))) ⌝ }
+{
+    is_low_four(s, proposed, Bytes(0))
+        & is_kept(s, proposed, Bytes(1), Bytes(3))
+        & is_hidden(proposed, Bytes(4), Bytes(20))
+        & is_kept(s, proposed, Bytes(24), Bytes(4))
+        & is_hidden(proposed, Bytes(28), Bytes(4))
+        & is_kept(s, proposed, Bytes(32), Bytes(24))
+        & is_kept_long(s, proposed, Bytes(56), label)
+}
+
+// Extension and body may be long: they are looked at only where the rest is right.
+pub(crate) fn is_properties_copy(
+    s: &[u8],
+    f: PropertiesFields,
+    size: Bytes,
+    proposed: &[u8],
+) -> bool
+    requires { ⌜ PropertiesLaid f (size .0) (now s) (now proposed) ⌝ }
+    ensures { λ r. ⌜ (r ≡ true) ↔ (take (size .0) (now (proposed .entry)) ≡ masked (propertiesMask f) (now (s .entry))) ⌝ }
+{
+    let label = f.label_length.bytes();
+    if !is_head_copy(s, label, proposed) {
+        return false;
+    }
+    let hidden = 56 + label.0;
+    is_hidden_long(proposed, Bytes(hidden), Bytes(size.0 - hidden))
 }

@@ -33,6 +33,10 @@ runs-append : (a b k : ℕ) (r : List ℕ) → replicate a k ++ (replicate b k +
 runs-append a b k r =
     sym (append-assoc (replicate a k) (replicate b k) r) ∙ ap (λ (z : List ℕ). z ++ r) (replicate-append-replicate a b k)
 
+-- and behind others
+runs-join : (a b k : ℕ) (r : List ℕ) → r ++ replicate a k ++ replicate b k ≡ r ++ replicate (a + b) k
+runs-join a b k r = append-assoc r (replicate a k) (replicate b k) ∙ ap (λ (z : List ℕ). r ++ z) (replicate-append-replicate a b k)
+
 part-both : (j n : ℕ) → partBits 0 j n ≡ replicate j 8 ++ (replicate (n - j) 0 ++ replicate (padding 4 n) 0)
 unfolding partBits
 part-both j n = append-assoc (replicate j 8) (replicate (n - j) 0) (replicate (padding 4 n) 0)
@@ -75,6 +79,24 @@ security-runs f identity provider size i p z =
     rw (security-parts, security-fixed, rest, i, p, ← replicate-append-replicate {A = ℕ} 14 j 8)
     (ap (λ (r : List ℕ). replicate 1 8 ++ (replicate 1 4 ++ (replicate 14 8 ++ r))) parts)
 
+-- the same, the identity's judged bytes a run of their own
+pub security-identity-runs : (f : SecurityFields) (identity provider size : ℕ)
+    → identity ≡ judgedIdentity f → provider ≡ providerAt f → size ≡ securityLength f
+    → replicate 1 8
+    ++ replicate 1 4
+    ++ replicate 14 8
+    ++ replicate identity 8
+    ++ replicate (provider - (16 + identity)) 0
+    ++ replicate (f .«provider_info_size» .0) 8
+    ++ replicate (size - (provider + f .«provider_info_size» .0)) 0
+    ≡ securityMask f
+security-identity-runs f identity provider size i p z =
+    let hidden : List ℕ = replicate (provider - (16 + identity)) 0 in
+    let info : List ℕ = replicate (f .«provider_info_size» .0) 8 in
+    let pad : List ℕ = replicate (size - (provider + f .«provider_info_size» .0)) 0 in
+    ap (λ (ks : List ℕ). ks ++ hidden ++ info ++ pad) (runs-join 14 identity 8 (replicate 1 8 ++ replicate 1 4))
+    ∙ security-runs f identity provider size i p z
+
 -- the label follows the fixed bytes
 pub properties-runs : (f : PropertiesFields) (label size : ℕ) → label ≡ labelBytes f → size ≡ propertiesLength f
     → replicate 1 4
@@ -95,3 +117,16 @@ properties-runs f label size l e =
     let zeros : none x ++ (none y ++ none pad) ≡ none (size - (56 + labelBytes f)) =
     runs-append x y 0 (none pad) ∙ replicate-append-replicate (x + y) pad 0 ∙ ap none (add-assoc x y pad ∙ size-eq) in
     simp (properties-fixed, l, ← replicate-append-replicate {A = ℕ} 24 (labelBytes f) 8, append-assoc, zeros)
+
+-- the fixed bytes' runs and the label's, of which what follows keeps nothing
+pub head-runs : (label : ℕ)
+    → replicate 1 4 ++ replicate 3 8 ++ replicate 20 0 ++ replicate 4 8 ++ replicate 4 0 ++ replicate 24 8 ++ replicate label 8
+    ≡ rowBits 0 propertiesRow ++ replicate label 8
+head-runs label = simp (properties-fixed, append-assoc)
+
+pub head-zeros : (f : PropertiesFields) (label size : ℕ) → label ≡ labelBytes f → size ≡ propertiesLength f
+    → rowBits 0 propertiesRow ++ replicate label 8 ++ replicate (size - (56 + label)) 0 ≡ propertiesMask f
+head-zeros f label size l e =
+    let before : List ℕ = replicate 1 4 ++ replicate 3 8 ++ replicate 20 0 ++ replicate 4 8 ++ replicate 4 0 in
+    let zeros : List ℕ = replicate (size - (56 + label)) 0 in
+    ap (λ (ks : List ℕ). ks ++ zeros) (sym (head-runs label) ∙ runs-join 24 label 8 before) ∙ properties-runs f label size l e

@@ -11,12 +11,15 @@ use Rattle.octets.specs.Over.{over}
 use Rattle.octets.proofs.Laws.Steps.{the}
 use Rattle.rules.specs.Judged.{copyOf}
 use Rattle.rules.specs.Output.{writerAnswer, writerOutput}
-use Rattle.rules.specs.Reading.{fieldsAt, judge, startAt, summaryAt}
+use Rattle.rules.specs.Reading.{judge, summaryAt}
 use Rattle.rules.specs.Refusal.{bytes}
 use Rattle.rules.specs.Support.{copyAnswer, copyOutput, supportAnswer, supportBytes}
 use Rattle.rules.specs.declared.section.Output.the-variants.{Written}
 use Rattle.rules.proofs.Laws.Accepted.{summarize-passed}
-use Rattle.reading.proofs.Laws.Passed.{end-told, fields-told, none-told, refused-told, start-told}
+use Rattle.reading.proofs.Laws.Passed.{none-told, refused-told}
+use Rattle.support.specs.Placed.{placedAt}
+use Rattle.support.specs.declared.placed.Placed.{Placed}
+use Rattle.support.proofs.Laws.Laid.{placed-told}
 use borrow.Author.Needs.{needs}
 use Rattle.support.proofs.copy.support_copy.Statement.{statement}
 use Rattle.support.proofs.copy.support_copy.Tie as tie
@@ -37,24 +40,22 @@ none : (c : tie.Else1) → judge (first c) (input c) .number ≡ 0
 unfolding first input
 none c = none-told _ _ (the tie.After-base-judge (search) .base-judge .ensures) (c .if1 .left)
 
-start : (c : tie.After-properties-start) → c .properties-start .result .0 ≡ startAt (first (c .before)) (input (c .before))
+-- where the section lies
+at : (c : tie.After-section-end)
+    → record {
+      start = c .before .before .properties-start .result;
+      properties = c .before .properties-fields .result;
+      end = c .section-end .result;
+    }
+    ≡ placedAt (first (c .before .before .before)) (input (c .before .before .before))
 unfolding first input
-start c = start-told (first (c .before)) (input (c .before)) (none (c .before)) (c .properties-start .ensures)
-
-fields : (c : tie.After-properties-fields)
-    → c .properties-fields .result ≡ fieldsAt (first (c .before .before)) (input (c .before .before))
-unfolding first input
-fields c =
-    let past = c .before .before in
-    fields-told (first past) (input past) (none past) (c .before .properties-start .ensures) (c .properties-fields .ensures .0)
+at c =
+    placed-told _ _ (none (search)) (c .before .before .properties-start .ensures) (c .before .properties-fields .ensures .0) (c .section-end .ensures)
 
 end : (c : tie.After-section-end)
     → c .section-end .result .0 ≡ summaryAt (first (c .before .before .before)) (input (c .before .before .before)) .parts .«section_length» .0
-unfolding first input
-end c =
-    let past = c .before .before .before in
-    end-told (first past) (input past) (none past) (c .before .before .properties-start .ensures) (c .before .properties-fields .ensures .0)
-    (c .section-end .ensures)
+unfolding placedAt
+end c = ap (λ (x : Placed). x .end .0) (at c)
 
 returns-2 : tie.Need-returns-2
 unfolding first input supportAnswer supportBytes copyAnswer copyOutput writerAnswer writerOutput
@@ -68,13 +69,7 @@ returns-2 c =
 copy-section-requires : tie.Need-copy-section-requires
 unfolding first input
 copy-section-requires c κs =
-    record {
-      passed = none (search);
-      fields = fields (search);
-      start = start (search);
-      end = end (search);
-      output = omega arith;
-    }
+    record { passed = none (search); placed = at (search); output = omega arith }
 
 returns-3 : tie.Need-returns-3
 unfolding first input supportAnswer supportBytes copyAnswer copyOutput writerAnswer writerOutput copyOf over

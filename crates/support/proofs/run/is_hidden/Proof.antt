@@ -1,0 +1,29 @@
+-- The bytes looked at are so many zeros.
+use denote.Ref.{now}
+use mathlib.Core.Path.{_≡_, sym, ap, _∙_}
+use mathlib.Core.List.{List, []}
+use Prim.Native.Nat.{ℕ, _+_, _-_, _%_}
+use native.Mathlib.Omega.{arith}
+use borrow.Author.Needs.{needs}
+use Rattle.octets.proofs.Laws.Steps.{the}
+use lib.ListN.{length, replicate}
+use Rattle.octets.proofs.Laws.Over.{length-lent}
+use Rattle.support.proofs.Laws.Compared.{zeros-same}
+use Rattle.support.proofs.run.is_hidden.Statement.{statement}
+use Rattle.support.proofs.run.is_hidden.Tie as tie
+
+returns : tie.Need-returns
+returns c =
+    let a = the tie.Start (search) .args in
+    zeros-same (a .at .0) (a .n .0) (now (a .proposed)) (the tie.Start (search) .pre) (c .all-zero .ensures)
+
+pub is-hidden-spec : {M : Type 1} → statement M
+is-hidden-spec =
+    tie.close
+    (tie.spec
+    (λ c. search needs)
+    (λ c. search needs)
+    (λ c. search needs)
+    (λ c. search needs)
+    (λ c κs. search needs)
+    returns)

@@ -1,0 +1,31 @@
+-- The bytes compared are those that the mask keeps whole.
+use denote.Ref.{now}
+use mathlib.Core.Path.{_≡_, sym, ap, _∙_}
+use mathlib.Core.List.{List, []}
+use Prim.Native.Nat.{ℕ, _+_, _-_, _%_}
+use native.Mathlib.Omega.{arith}
+use borrow.Author.Needs.{needs}
+use Rattle.octets.proofs.Laws.Steps.{the}
+use Rattle.support.proofs.Laws.Compared.{kept-same}
+use Rattle.support.proofs.run.is_kept_long.Statement.{statement}
+use Rattle.support.proofs.run.is_kept_long.Tie as tie
+
+returns : tie.Need-returns
+returns c =
+    let a = the tie.Start (search) .args in
+    kept-same (a .at .0) (a .n .0) (now (a .s)) (now (a .proposed))
+    (λ i. the tie.After-shared-slice-known (search) .shared-slice-known .given i .fits) (c .same-long .ensures)
+
+pub is-kept-long-spec : {M : Type 1} → statement M
+is-kept-long-spec =
+    tie.close
+    (tie.spec
+    (λ c. search needs)
+    (λ c. search needs)
+    (λ c. search needs)
+    (λ c. search needs)
+    (λ c. search needs)
+    (λ c. search needs)
+    (λ c. search needs)
+    (λ c κs. search needs)
+    returns)

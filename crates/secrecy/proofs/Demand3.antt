@@ -50,7 +50,7 @@ module _ (first : Bool) (s : List ℕ) (m : Summary) (e : summarize first s ≡ 
   mask-le : length (judged m) ≤ length s
   mask-le = judged-le first s m accepted-passed
 
-  copy-masked : CopyIsMasked m s (copyOf m s)
+  pub copy-masked : CopyIsMasked m s (copyOf m s)
   unfolding copyOf
   copy-masked =
       record {
@@ -66,7 +66,7 @@ module _ (first : Bool) (s : List ℕ) (m : Summary) (e : summarize first s ≡ 
     copy-written =
         rw (e, le-ltb (length out) (sectionLength m) room) (ap (λ (n : ℕ). copyOf m s ++ drop n out) (copy-masked .size))
 
-    copy-first : take (sectionLength m) (supportBytes first s out) ≡ copyOf m s
+    pub copy-first : take (sectionLength m) (supportBytes first s out) ≡ copyOf m s
     copy-first = rw copy-written (take-at (copyOf m s) (drop (sectionLength m) out) (sectionLength m) (copy-masked .size))
 
     copy-behind : drop (sectionLength m) (supportBytes first s out) ≡ drop (sectionLength m) out
@@ -83,13 +83,15 @@ module _ (first : Bool) (s : List ℕ) (m : Summary) (e : summarize first s ≡ 
   pub agrees-reads : (t : List ℕ) → Octets s → Octets t → Agrees m s t → Reads first m s t
   agrees-reads t bs bt a = reads first s t m accepted-passed (a .reaches) (agrees-same t bs bt (a .reaches) .0 a)
 
+  pub copy-octets : Octets s → Octets (copyOf m s)
+  unfolding copyOf
+  copy-octets bs i = rw getD-masked (lt-of-le-of-lt (mod-le (getD s i 0) (2 ^ getD (judged m) i 0)) (bs i))
+
   -- so does the copy
   copy-reads : Octets s → Reads first m s (copyOf m s)
   unfolding copyOf
   copy-reads bs =
-      let bytes : Octets (copyOf m s) =
-      λ i. rw getD-masked (lt-of-le-of-lt (mod-le (getD s i 0) (2 ^ getD (judged m) i 0)) (bs i)) in
-      agrees-reads (copyOf m s) bs bytes
+      agrees-reads (copyOf m s) bs (copy-octets bs)
       (agrees-alike m s (copyOf m s) .1
       (omega (arith, copy-masked .size), rw append-nil at (alike-masked (judged m) s [] mask-le)))
 

@@ -1,7 +1,10 @@
 pub mod Alike
 pub mod Demand3
+pub mod Held
 pub mod Properties
+pub mod Proposed
 pub mod ReadAlike
+pub mod Refused
 pub mod SameBytes
 pub mod Section
 pub mod Security

@@ -16,7 +16,9 @@ use Rattle.rules.specs.Summary.{partOf, noSecurity, summaryOf, labelOf, provide
 use Rattle.rules.specs.declared.properties.PropertiesFields.{PropertiesFields}
 use Rattle.rules.specs.declared.section.Summarized.the-variants.{Accepted}
 use Rattle.rules.specs.declared.section.Summary.{Summary}
+use Rattle.rules.specs.declared.security.SecurityFields.{SecurityFields}
 use Rattle.rules.specs.declared.security.SecurityHeader.{SecurityHeader}
+use Rattle.rules.specs.declared.security.SecurityParts.{SecurityParts}
 use Rattle.rules.proofs.Laws.Accepted.{HeaderPassed, PropertiesPassed, SectionPassed, SecurityPassed}
 use Rattle.rules.proofs.Laws.Accepted.{header-fits, section-fits, section-passed, security-fields}
 use Rattle.rules.proofs.Laws.Judged.{identity-le-provider}
@@ -33,15 +35,13 @@ or-cong : (b : Bool) {x y : Bool} → (b ≡ true → x ≡ y) → (not b || x) 
 or-cong true h = h refl
 or-cong false h = refl
 
-module _ (s t : List ℕ) (h : SecurityHeader) (a : SecurityPassed s h) (e : SameSecurity (h .fields) (h .parts) s t) where
-  -- S10 sees the same
-  head-same : identityHead (h .fields) (partOf s (h .parts .«sender_id»))
-      ≡ identityHead (h .fields) (partOf t (h .parts .«sender_id»))
-  unfolding identityHead
-  head-same =
-      or-cong (eqb (ST (h .fields)) 1) λ one.
-      rw (e .identity one 0 (omega arith), e .identity one 1 (omega arith))
+-- S10 sees the same
+pub head-same : (f : SecurityFields) (parts : SecurityParts) {s t : List ℕ} → SameSecurity f parts s t
+    → identityHead f (partOf s (parts .«sender_id»)) ≡ identityHead f (partOf t (parts .«sender_id»))
+unfolding identityHead
+head-same f parts e = or-cong (eqb (ST f) 1) λ one. rw (e .identity one 0 (omega arith), e .identity one 1 (omega arith))
 
+module _ (s t : List ℕ) (h : SecurityHeader) (a : SecurityPassed s h) (e : SameSecurity (h .fields) (h .parts) s t) where
   -- the header holds the same
   header-same : securityHeader s (h .parts) ≡ securityHeader t (h .parts)
   unfolding securityHeader
@@ -72,7 +72,7 @@ module _ (s t : List ℕ) (h : SecurityHeader) (a : SecurityPassed s h) (e : Sam
         steps = a .steps;
         small = a .small;
         reaches = room;
-        identity = sym head-same ∙ a .identity;
+        identity = sym (head-same (h .fields) (h .parts) e) ∙ a .identity;
         provider = rw (sym (e .provider)) (a .provider);
         parts = a .parts;
         header = a .header ∙ header-same;

@@ -1,2 +1,4 @@
 pub mod Demand3
+pub mod Proposed
+pub mod Refused
 pub mod Unread

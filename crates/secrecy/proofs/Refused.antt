@@ -1,0 +1,279 @@
+-- Inputs that differ in nothing but what is private are refused alike.
+use Prim.Native.Nat.{ℕ, _+_, _-_, _≤_, _<_}
+use mathlib.Core.Path.{_≡_, refl, sym, ap, subst, _∙_}
+use mathlib.Core.Bool.{Bool, true, false, not, cond}
+use mathlib.Core.List.{List, [], _++_}
+use native.Mathlib.Decide.{decLt}
+use native.Mathlib.Omega.{arith}
+use borrow.Author.Tests.{eq-eqb, eqb-false, eqb-true, le-ltb, lt-ltb, ne-eqb}
+use lib.Dec.{eqb, ltb}
+use lib.ListN.{length, getD, drop, replicate, length-append, length-drop, length-replicate}
+use Rattle.octets.specs.Octets.{Octets}
+use Rattle.octets.specs.Padding.{padded}
+use Rattle.rules.specs.Judged.{securityMask}
+use Rattle.rules.specs.Place.{propertiesPlace, propertiesRefusal, sectionRefusal, securityPlace, securityRefusal}
+use Rattle.rules.specs.Properties.{labelBytes, propertiesFields, propertiesParts, propertiesRow, readProperties}
+use Rattle.rules.specs.Reading.{fullReading, headerAt, judge, labelAt, propertiesNumber, providerInfoAt, read, securityHeader, securityNumber}
+use Rattle.rules.specs.Reading.{startAt, summarize}
+use Rattle.rules.specs.Refusal.{refusal}
+use Rattle.rules.specs.Row.{rowBits}
+use Rattle.rules.specs.Security.{certAt, identityHead, keyAt, providerAt, readSecurity, securityContents, securityFields, securityLength}
+use Rattle.rules.specs.Security.{securityParts, securityRow, signatureAt}
+use Rattle.rules.specs.Summary.{noSecurity, partOf}
+use Rattle.rules.specs.Support.{copyAnswer, copyOutput, supportAnswer, supportBytes}
+use Rattle.rules.specs.declared.properties.PropertiesFields.{PropertiesFields}
+use Rattle.rules.specs.declared.refusal.Refusal.{Refusal}
+use Rattle.rules.specs.declared.section.Summarized.the-variants.{Refused}
+use Rattle.rules.specs.declared.security.SecurityFields.{SecurityFields}
+use Rattle.rules.proofs.Laws.Accepted.{header-fits, security-number, summarize-passed, summarize-refused}
+use Rattle.rules.proofs.Laws.Judged.{length-securityBits}
+use Rattle.rules.proofs.Laws.Masked.{Alike, alike-append}
+use Rattle.rules.proofs.Laws.Named.{properties-size, propertiesNamed, security-size, securityNamed}
+use Rattle.rules.proofs.Laws.Row.{length-rowBits, named-alike}
+use Rattle.secrecy.proofs.Alike.{BothOctets, alike-run, drop-octets}
+use Rattle.secrecy.proofs.Held.{Held, held-alike, held-behind, within-both}
+use Rattle.secrecy.proofs.ReadAlike.{head-same}
+use Rattle.secrecy.proofs.Security.{SameSecurity, security-alike}
+use Rattle.secrecy.specs.Refused.{DifferInPrivate, RefusedAlike, SameRefusal, held, propertiesHeld, securityHeld}
+
+-- the steps see no more of an identity than its head
+read-head : (n : ℕ) (f : SecurityFields) (x y info : List ℕ) → identityHead f x ≡ identityHead f y
+    → readSecurity n f x info ≡ readSecurity n f y info
+unfolding readSecurity securityContents
+read-head n f x y info e = rw e
+
+module _ {s t : List ℕ} (o : BothOctets s t) (size : length t ≡ length s) where
+  -- what reading sees of a SecurityHeader is the same
+  abbrev SameFirst : Type 0
+  SameFirst = SameSecurity (securityFields s) (securityParts (securityFields s)) s t
+
+  -- of an accepted one, by what is judged
+  first-accepted : securityNumber true s ≡ 0 → Alike (securityMask (securityFields s)) s t → SameFirst
+  unfolding headerAt securityHeader securityParts
+  first-accepted e a =
+      let passed = security-number true s .0 e in
+      let reaches = passed .reaches in
+      security-alike o (securityFields s) (securityParts (securityFields s)) (header-fits passed) reaches (omega arith) .0 a
+
+  -- of any other whose fixed bytes are there, by all its bytes
+  first-other : 16 ≤ length s → Alike (rowBits 0 securityRow ++ replicate (securityLength (securityFields s) - 16) 8) s t → SameFirst
+  unfolding securityParts securityLength providerAt certAt signatureAt keyAt padded
+  first-other there a =
+      let f = securityFields s in
+      let n = f .«sender_id_size» .0 in
+      let both = alike-append (rowBits 0 securityRow) (replicate (securityLength f - 16) 8) s t 16 (length-rowBits 0 securityRow ∙ security-size) .0 a in
+      let bytes = alike-run o 16 (securityLength f - 16) .0 (both .1) in
+      let identity = within-both s t 16 n size (λ i l. bytes i (omega arith)) in
+      record {
+        fields = named-alike securityNamed s t (o .left) (o .right) (rw security-size there) (rw security-size (omega arith)) .0 (both .0);
+        identity = λ one i l. ap (λ (x : List ℕ). getD x i 0) identity;
+        provider = within-both s t (providerAt f) (f .«provider_info_size» .0) size
+            (λ i l.
+            let at : providerAt f + i ≡ 16 + (providerAt f - 16 + i) = omega arith in
+            subst (λ (k : ℕ). getD s k 0 ≡ getD t k 0) (sym at) (bytes (providerAt f - 16 + i) (omega arith)));
+      }
+
+  -- so the steps answer the same number, on the same provider info, and the MessagePropertiesHeader begins at the same place
+  module _ (e : SameFirst) where
+    info-same : providerInfoAt t ≡ providerInfoAt s
+    info-same = ap (λ (f : SecurityFields). partOf t (securityParts f .«provider_info»)) (sym (e .fields)) ∙ sym (e .provider)
+
+    number-same : securityNumber true t ≡ securityNumber true s
+    unfolding securityNumber
+    number-same =
+        let f = securityFields s in
+        let parts = securityParts f in
+        ap (λ (g : SecurityFields). readSecurity (length t) g (partOf t (securityParts g .«sender_id»)) (partOf t (securityParts g .«provider_info»)))
+        (sym (e .fields))
+        ∙ ap (λ (n : ℕ). readSecurity n f (partOf t (parts .«sender_id»)) (partOf t (parts .«provider_info»))) size
+        ∙ sym (read-head (length s) f (partOf s (parts .«sender_id»)) (partOf t (parts .«sender_id»)) (partOf t (parts .«provider_info»))
+        (head-same f parts e))
+        ∙ ap (readSecurity (length s) f (partOf s (parts .«sender_id»))) (sym (e .provider))
+
+    start-same : startAt true t ≡ startAt true s
+    unfolding startAt headerAt securityHeader securityParts
+    start-same = ap securityLength (sym (e .fields))
+
+  -- a MessagePropertiesHeader at p, behind so many bytes that are told
+  module _ (p : ℕ) (ks : List ℕ) (before : length ks ≡ p) (h : Held (ks ++ propertiesHeld p s) s t) where
+    -- whose fixed bytes are not all there
+    properties-cut : length s < p + 56
+        → propertiesRefusal (propertiesNumber t p) p (labelAt t p) ≡ propertiesRefusal (propertiesNumber s p) p (labelAt s p)
+    unfolding propertiesNumber readProperties propertiesRefusal propertiesPlace
+    properties-cut cut = rw (lt-ltb (length s) (p + 56) cut, lt-ltb (length t) (p + 56) (omega arith))
+
+    -- or are
+    module _ (there : p + 56 ≤ length s) where
+      told : Held (ks ++ rowBits 0 propertiesRow) s t
+      unfolding propertiesHeld
+      told = rw (le-ltb (length s) (p + 56) there) at h
+
+      properties-fields : propertiesFields (drop p s) ≡ propertiesFields (drop p t)
+      properties-fields =
+          let od = drop-octets o p in
+          named-alike propertiesNamed (drop p s) (drop p t) (od .left) (od .right)
+          (simp (properties-size, length-drop) (omega arith)) (simp (properties-size, length-drop) (omega arith)) .0
+          (alike-append ks (rowBits 0 propertiesRow) s t p before .0 (held-alike told) .1)
+
+      label-same : labelAt t p ≡ labelAt s p
+      unfolding propertiesParts
+      label-same =
+          let n = labelBytes (propertiesFields (drop p s)) in
+          let size-told : length (ks ++ rowBits 0 propertiesRow) ≡ p + 56 =
+          simp (length-append, before, length-rowBits, properties-size) in
+          ap (λ (f : PropertiesFields). partOf t (propertiesParts p f .label)) (sym properties-fields)
+          ∙ sym (within-both s t (p + 56) n size (held-behind o told (p + 56) n (omega arith)))
+
+      properties-there : propertiesRefusal (propertiesNumber t p) p (labelAt t p) ≡ propertiesRefusal (propertiesNumber s p) p (labelAt s p)
+      unfolding propertiesNumber
+      properties-there =
+          ap (λ (x : List ℕ). propertiesRefusal (readProperties (length t) p (propertiesFields (drop p t)) x) p x) label-same
+          ∙ ap (λ (f : PropertiesFields). propertiesRefusal (readProperties (length t) p f (labelAt s p)) p (labelAt s p)) (sym properties-fields)
+          ∙ ap (λ (n : ℕ). propertiesRefusal (readProperties n p (propertiesFields (drop p s)) (labelAt s p)) p (labelAt s p)) size
+
+    properties-same : propertiesRefusal (propertiesNumber t p) p (labelAt t p) ≡ propertiesRefusal (propertiesNumber s p) p (labelAt s p)
+    properties-same = go (decLt (length s) (p + 56))
+      where
+        go : Dec (length s < p + 56)
+            → propertiesRefusal (propertiesNumber t p) p (labelAt t p) ≡ propertiesRefusal (propertiesNumber s p) p (labelAt s p)
+        go (yes cut) = properties-cut cut
+        go (no there) = properties-there (omega arith)
+
+-- the refusal is by a step on the SecurityHeader, or else by one on the MessagePropertiesHeader
+judge-next : (first : Bool) (s : List ℕ) → securityNumber first s ≡ 0
+    → let p = startAt first s in
+    judge first s ≡ propertiesRefusal (propertiesNumber s p) p (labelAt s p)
+unfolding judge sectionRefusal
+judge-next first s e = rw (eq-eqb (securityNumber first s) 0 e)
+
+judge-first : (first : Bool) (s : List ℕ) → ¬ (securityNumber first s ≡ 0)
+    → judge first s ≡ securityRefusal (securityNumber first s) (securityFields s) (providerInfoAt s)
+unfolding judge sectionRefusal
+judge-first first s e = rw (ne-eqb (securityNumber first s) 0 e)
+
+-- the refusal is the same, and so are the bits that may not differ
+record Alikes (first : Bool) (s t : List ℕ) : Type 0 where
+  judged : judge first t ≡ judge first s
+  told : held first t ≡ held first s
+
+module _ {s t : List ℕ} (o : BothOctets s t) (size : length t ≡ length s) where
+  held-next : (p : ℕ) → propertiesHeld p t ≡ propertiesHeld p s
+  unfolding propertiesHeld
+  held-next p = ap (λ (n : ℕ). cond (ltb n (p + 56)) [] (rowBits 0 propertiesRow)) size
+
+  -- without a SecurityHeader
+  alone : Held (held false s) s t → Alikes false s t
+  unfolding held startAt headerAt noSecurity securityNumber
+  alone h =
+      record {
+        judged = judge-next false t refl ∙ properties-same o size 0 [] refl h ∙ sym (judge-next false s refl);
+        told = held-next 0;
+      }
+
+-- a SecurityHeader whose fixed bytes are not all there
+cut-judged : (s : List ℕ) → length s < 16 → judge true s ≡ refusal 1 0
+unfolding judge sectionRefusal securityNumber readSecurity securityRefusal securityPlace
+cut-judged s cut = rw (lt-ltb (length s) 16 cut)
+
+cut-told : (s : List ℕ) → length s < 16 → held true s ≡ []
+unfolding held securityHeld propertiesHeld securityNumber readSecurity startAt headerAt securityHeader securityParts securityLength providerAt certAt signatureAt keyAt
+cut-told s cut =
+    rw (lt-ltb (length s) 16 cut, lt-ltb (length s) (startAt true s + 56) (omega arith))
+
+-- which bits are told of a SecurityHeader that is accepted, and of another whose fixed bytes are there
+accepted-told : (s : List ℕ) → securityNumber true s ≡ 0 → held true s ≡ securityMask (securityFields s) ++ propertiesHeld (startAt true s) s
+unfolding held securityHeld
+accepted-told s e = rw (eq-eqb (securityNumber true s) 0 e)
+
+other-told : (s : List ℕ) → ¬ (securityNumber true s ≡ 0) → 16 ≤ length s
+    → held true s
+    ≡ rowBits 0 securityRow ++ replicate (securityLength (securityFields s) - 16) 8 ++ propertiesHeld (startAt true s) s
+unfolding held securityHeld
+other-told s e there = rw (ne-eqb (securityNumber true s) 0 e, le-ltb (length s) 16 there)
+
+module _ {s t : List ℕ} (o : BothOctets s t) (size : length t ≡ length s) (h : Held (held true s) s t) where
+  accepted-first : securityNumber true s ≡ 0 → Alikes true s t
+  unfolding startAt headerAt securityHeader securityParts
+  accepted-first e =
+      let p = startAt true s in
+      let mask = securityMask (securityFields s) in
+      let length-mask = length-securityBits 0 (securityFields s) in
+      let h : Held (mask ++ propertiesHeld p s) s t = rw accepted-told at h in
+      let first = first-accepted o size e (alike-append mask (propertiesHeld p s) s t p length-mask .0 (held-alike h) .0) in
+      let none = number-same o size first ∙ e in
+      let start = start-same o size first in
+      record {
+        judged = judge-next true t none
+            ∙ ap (λ (q : ℕ). propertiesRefusal (propertiesNumber t q) q (labelAt t q)) start
+            ∙ properties-same o size p mask length-mask h
+            ∙ sym (judge-next true s e);
+        told = accepted-told t none
+            ∙ ap (λ (f : SecurityFields). securityMask f ++ propertiesHeld (startAt true t) t) (sym (first .fields))
+            ∙ ap (λ (q : ℕ). mask ++ propertiesHeld q t) start
+            ∙ ap (λ (ks : List ℕ). mask ++ ks) (held-next o size p)
+            ∙ sym (accepted-told s e);
+      }
+
+  other-first : ¬ (securityNumber true s ≡ 0) → 16 ≤ length s → Alikes true s t
+  other-first e there =
+      let p = startAt true s in
+      let ks : SecurityFields → List ℕ = λ f. rowBits 0 securityRow ++ replicate (securityLength f - 16) 8 in
+      let f = securityFields s in
+      let h : Held (ks f ++ propertiesHeld p s) s t = rw (other-told s e there) at h in
+      let first = first-other o size there (alike-append (ks f) (propertiesHeld p s) s t (length (ks f)) refl .0 (held-alike h) .0) in
+      let number = number-same o size first in
+      let some : ¬ (securityNumber true t ≡ 0) = λ z. e (sym number ∙ z) in
+      record {
+        judged = judge-first true t some
+            ∙ ap (λ (n : ℕ). securityRefusal n (securityFields t) (providerInfoAt t)) number
+            ∙ ap (λ (g : SecurityFields). securityRefusal (securityNumber true s) g (providerInfoAt t)) (sym (first .fields))
+            ∙ ap (securityRefusal (securityNumber true s) f) (info-same o size first)
+            ∙ sym (judge-first true s e);
+        told = other-told t some (omega arith)
+            ∙ ap (λ (g : SecurityFields). ks g ++ propertiesHeld (startAt true t) t) (sym (first .fields))
+            ∙ ap (λ (q : ℕ). ks f ++ propertiesHeld q t) (start-same o size first)
+            ∙ ap (λ (ls : List ℕ). ks f ++ ls) (held-next o size p)
+            ∙ sym (other-told s e there);
+      }
+
+  first-one : Alikes true s t
+  first-one = go (decLt (length s) 16) (eqb (securityNumber true s) 0) refl
+    where
+      go : Dec (length s < 16) → (b : Bool) → eqb (securityNumber true s) 0 ≡ b → Alikes true s t
+      go (yes cut) b e =
+          record {
+            judged = cut-judged t (omega arith) ∙ sym (cut-judged s cut);
+            told = cut-told t (omega arith) ∙ sym (cut-told s cut);
+          }
+      go (no there) true e = accepted-first (eqb-true (securityNumber true s) 0 e)
+      go (no there) false e = other-first (eqb-false (securityNumber true s) 0 e) (omega arith)
+
+alikes : (first : Bool) {s t : List ℕ} → BothOctets s t → DifferInPrivate first s t → Alikes first s t
+alikes true o d = first-one o (d .size) (record { bits = d .bits })
+alikes false o d = alone o (d .size) (record { bits = d .bits })
+
+-- what the functions answer of a refused input is its refusal
+refused-told : (first : Bool) (s t : List ℕ) (r : Refusal) → judge first t ≡ judge first s → summarize first s ≡ Refused r
+    → SameRefusal first s t r
+unfolding read fullReading supportAnswer supportBytes copyAnswer copyOutput
+refused-told first s t r same e =
+    let some : ¬ (judge first s .number ≡ 0) = λ none.
+    let accepted = summarize-passed first s none in
+    let z : _≡_ {A = ℕ} 0 1 = cc in
+    omega (arith, z) in
+    let own = summarize-refused first t (λ none. some (ap (λ (x : Refusal). x .number) (sym same) ∙ none))
+    ∙ ap Refused same ∙ sym (summarize-refused first s some) ∙ e in
+    record { summary = own; reading = rw own; copy = λ out. (rw own, rw own) }
+
+pub refused-alike : RefusedAlike
+refused-alike =
+    record {
+      judged = λ first s t bs bt d. alikes first (record { left = bs; right = bt }) d .judged;
+      refused = λ first s t r bs bt d e. refused-told first s t r (alikes first (record { left = bs; right = bt }) d .judged) e;
+      either = λ first s t bs bt d.
+          let told = alikes first (record { left = bs; right = bt }) d .told in
+          record {
+            size = sym (d .size);
+            bits = λ i j l. sym (d .bits i j (subst (λ (ks : List ℕ). j < getD ks i 8) told l));
+          };
+    }

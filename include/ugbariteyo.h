@@ -39,9 +39,9 @@ extern "C" {
 #endif
 
 #define UGB_VERSION_MAJOR 1
-#define UGB_VERSION_MINOR 2
+#define UGB_VERSION_MINOR 3
 #define UGB_VERSION_PATCH 0
-#define UGB_VERSION "1.2.0"
+#define UGB_VERSION "1.3.0"
 
 /* 01: a section has at most so many bytes. */
 #define UGB_LIMIT 4194304
@@ -374,6 +374,13 @@ typedef struct ugb_output {
 /* The support copy: the section with every private bit zero. Refused as ugb_read is, then with 13 where out_length
  * is below the section's length. */
 ugb_output ugb_support_copy(const uint8_t *s, size_t s_length, bool security_first, uint8_t *out, size_t out_length);
+
+/* Whether a copy, whoever made it, is the support copy of the section at the first of s_length bytes: byte for byte, in
+ * its exact length, which is the section's. False where the section is refused; ugb_read says with what. Neither the
+ * section's private bits nor the bytes behind it count, and nothing is written. The copy may be the section itself: true
+ * then says that it holds nothing private. */
+bool ugb_is_support_copy(const uint8_t *s, size_t s_length, bool security_first, const uint8_t *copy,
+                         size_t copy_length);
 
 /* The values of a section. The sizes come from the parts. */
 typedef struct ugb_section_values {

@@ -105,6 +105,36 @@ static void check_again(const ugb_section *read, const uint8_t *section, size_t 
     SAME(memcmp(out, section, length), 0);
 }
 
+static bool is_copy(const uint8_t *section, size_t section_length, size_t copy_length)
+{
+    return ugb_is_support_copy(section, section_length, true, out, copy_length);
+}
+
+/* Of the section the copy in the output is the support copy, and no other bytes are: none with another bit, no more and
+ * no fewer. Its private bits do not count: with another bit it has that copy where the summary is the same. */
+static void check_copy(const uint8_t *section)
+{
+    static uint8_t other[SECTION_LENGTH];
+    const size_t length = SECTION_LENGTH;
+    SAME(is_copy(section, length, length), true);
+    SAME(is_copy(section, length, length - 1), false);
+    SAME(is_copy(section, length, length + 1), false);
+    SAME(is_copy(section, length - 1, length), false);
+    SAME(is_copy(section, length - 1, length - 1), false);
+    SAME(ugb_is_support_copy(section, length, true, section, length), false);
+    SAME(ugb_is_support_copy(out, sizeof out, true, out, length), true);
+    SAME(ugb_is_support_copy(section, length, false, out, length), false);
+    for (size_t bit = 0; bit < 8 * length; bit++) {
+        uint8_t turned = (uint8_t)(1 << bit % 8);
+        out[bit / 8] ^= turned;
+        SAME(is_copy(section, length, length), false);
+        out[bit / 8] ^= turned;
+        memcpy(other, section, length);
+        other[bit / 8] ^= turned;
+        SAME(is_copy(other, length, length), ugb_same_summary(other, length, section, length, true));
+    }
+}
+
 static void check_whole(void)
 {
     static uint8_t section[SECTION_LENGTH];
@@ -135,6 +165,7 @@ static void check_whole(void)
     for (size_t i = 0; i < sizeof body; i++)
         SAME(out[PROPERTIES_AT + 71 + i], 0);
     SAME(ugb_same_summary(section, sizeof section, out, sizeof out, true), true);
+    check_copy(section);
     out[PROPERTIES_AT + 57] = 1; /* a unit of the label */
     SAME(ugb_same_summary(section, sizeof section, out, sizeof out, true), false);
     pattern();
@@ -270,6 +301,7 @@ static void reading_refused(size_t length, bool security_first, uint32_t number,
     SAME(label.stand_in, true);
     PART(ZERO, label.part)
     SAME(ugb_same_summary(input, length, input, length, security_first), false);
+    SAME(ugb_is_support_copy(input, length, security_first, input, length), false);
 }
 
 static void length_is(size_t length, bool security_first, size_t wanted)
@@ -408,12 +440,15 @@ static void check_null(void)
     SAME(ugb_field_at(NULL, 0, true, 0).field, UGB_FIELD_NONE);
     SAME(ugb_label_shown(NULL, 0, false).stand_in, true);
     SAME(ugb_same_summary(NULL, 0, NULL, 0, false), false);
+    SAME(ugb_is_support_copy(NULL, 0, false, NULL, 0), false);
     pattern();
     refused(ugb_support_copy(NULL, 0, false, out, sizeof out), UGB_INPUT_SHORT, 0);
     refused(ugb_support_copy(NULL, 0, false, NULL, 0), UGB_INPUT_SHORT, 0);
     refused(ugb_write_image((ugb_queue_format){0, 0}, NULL, 0, NULL, 0, NULL, 0), UGB_OUTPUT_SHORT, 0);
     refused(ugb_write_section(&zero, &none, NULL, 0), UGB_OUTPUT_SHORT, 0);
     written(ugb_write_section(&zero, &none, out, sizeof out), 56);
+    SAME(ugb_is_support_copy(out, 56, false, NULL, 0), false);
+    SAME(ugb_is_support_copy(out, 56, false, out, 56), true);
 
     const ugb_section_values values_read = ugb_values_of(&reading.section, NULL);
     const ugb_section_parts parts_read = ugb_parts_of(&reading.section, NULL);

@@ -1,6 +1,6 @@
 /* Sends a signed message, with a hash that is retired and with one that is not, and does with its section what receivers
- * do: reads it back, makes its support copy, writes it again, and lists it as a record of a day's file. Prints what each
- * call answered. */
+ * do: reads it back, makes its support copy, checks a copy that another made, writes the section again, and lists it as a
+ * record of a day's file. Prints what each call answered. */
 #include <stdio.h>
 #include <stdlib.h>
 #include <string.h>
@@ -79,6 +79,10 @@ int main(void)
     accepted("copy", copied.refusal);
     printf("copied: %zu bytes, %s summary\n", copied.length,
            ugb_same_summary(section, sent.length, copy, copied.length, sent.security_first) ? "the same" : "another");
+
+    bool copy_is = ugb_is_support_copy(section, sent.length, sent.security_first, copy, copied.length);
+    bool section_is = ugb_is_support_copy(section, sent.length, sent.security_first, section, sent.length);
+    printf("checked: %s for the copy, %s for the section itself\n", copy_is ? "yes" : "no", section_is ? "yes" : "no");
 
     size_t written = write_again(&reading.section);
     printf("written: %zu bytes, %s\n", written, memcmp(section, again, written) == 0 ? "the same" : "others");

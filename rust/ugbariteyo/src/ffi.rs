@@ -71,8 +71,8 @@ pub(crate) use queue::{read_image, write_image, QueueFormat};
 pub(crate) use record::{next_record, Record};
 pub(crate) use request::{defaulted, send, Defaulted};
 pub(crate) use section::{
-    label_shown, read, same_summary, support_copy, PropertiesFields, PropertiesParts, Reading,
-    SecurityHeader, Summary,
+    is_support_copy, label_shown, read, same_summary, support_copy, PropertiesFields, PropertiesParts,
+    Reading, SecurityHeader, Summary,
 };
 pub(crate) use write::write_section;
 

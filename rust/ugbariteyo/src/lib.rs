@@ -64,6 +64,25 @@
 //! # Ok::<(), ugbariteyo::Refusal>(())
 //! ```
 //!
+//! # A copy that another made
+//!
+//! Partners make copies with tools of their own. [`is_support_copy`] says whether one is the support copy, without
+//! making it.
+//!
+//! ```
+//! use ugbariteyo::{is_support_copy, First};
+//!
+//! let mut input = [0; 60];
+//! input[32] = 3;
+//! input[36] = 3;
+//! input[56..59].copy_from_slice(b"two");
+//!
+//! let mut theirs = input;
+//! assert!(!is_support_copy(&input, First::PropertiesHeader, &theirs));
+//! theirs[56..59].fill(0);
+//! assert!(is_support_copy(&input, First::PropertiesHeader, &theirs));
+//! ```
+//!
 //! # The records of a day's file
 //!
 //! ```no_run
@@ -103,7 +122,7 @@ mod summary;
 mod text;
 mod write;
 
-pub use copy::{support_copy, support_copy_vec};
+pub use copy::{is_support_copy, support_copy, support_copy_vec};
 pub use field::{field_at, Field, FieldAt};
 pub use flags::{PropertiesFlags, SecurityFlags};
 pub use part::Part;

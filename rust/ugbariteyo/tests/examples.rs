@@ -9,9 +9,12 @@ use ugbariteyo::{
 
 use First::{PropertiesHeader, SecurityHeader};
 
+#[path = "given/copy.rs"]
+mod given_copy;
 #[path = "given/section.rs"]
 mod given_section;
 
+use given_copy::full_copy;
 use given_section::{full_section, pattern, properties, refused, security, with_output, FULL_LENGTH};
 
 /// A label of so many units, the null included.
@@ -349,15 +352,7 @@ fn summaries_and_copies_hold_the_judged_bits_alone() {
     let bytes = full_section();
     let copy = with_output(FULL_LENGTH + 3, |out| support_copy(&bytes, SecurityHeader, out)).unwrap();
     assert_eq!(support_copy_vec(&bytes, SecurityHeader).unwrap(), copy);
-    let mut expected = bytes[..FULL_LENGTH].to_vec();
-    expected[1] = 0;
-    expected[18..44].fill(0);
-    expected[54..56].fill(0);
-    expected[56] = 0x0B;
-    expected[60..80].fill(0);
-    expected[84..88].fill(0);
-    expected[116..].fill(0);
-    assert_eq!(copy, expected);
+    assert_eq!(copy, full_copy());
     for room in 0..FULL_LENGTH {
         let short = with_output(room, |out| support_copy(&bytes, SecurityHeader, out));
         assert_eq!(short, Err(refused(Kind::OutputShort, 0)));

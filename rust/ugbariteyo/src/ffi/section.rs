@@ -1,4 +1,4 @@
-//! Reading a section, and its support copy.
+//! Reading a section, its support copy, and the check of one.
 
 use super::{Output, Part, Refusal};
 use crate::section::First;
@@ -128,6 +128,13 @@ extern "C" {
         out: *mut u8,
         out_length: usize,
     ) -> Output;
+    fn ugb_is_support_copy(
+        s: *const u8,
+        s_length: usize,
+        security_first: First,
+        copy: *const u8,
+        copy_length: usize,
+    ) -> bool;
 }
 
 #[inline]
@@ -152,4 +159,10 @@ pub(crate) fn label_shown(s: &[u8], first: First) -> Label {
 pub(crate) fn support_copy(s: &[u8], first: First, out: &mut [u8]) -> Output {
     // SAFETY: pointers and lengths are those of slices, and `out` is borrowed alone.
     unsafe { ugb_support_copy(s.as_ptr(), s.len(), first, out.as_mut_ptr(), out.len()) }
+}
+
+#[inline]
+pub(crate) fn is_support_copy(s: &[u8], first: First, copy: &[u8]) -> bool {
+    // SAFETY: pointers and lengths are those of two slices.
+    unsafe { ugb_is_support_copy(s.as_ptr(), s.len(), first, copy.as_ptr(), copy.len()) }
 }

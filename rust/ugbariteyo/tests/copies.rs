@@ -21,9 +21,9 @@ mod given_section;
 use given_copy::full_copy;
 use given_section::{full_section, properties, FULL_LENGTH};
 
-/// The bytes with one bit of the first `length` turned over, and its place: of each bit.
-fn turned(bytes: &[u8], length: usize) -> impl Iterator<Item = (usize, u8, Vec<u8>)> + '_ {
-    let bits = (0..length).flat_map(|at| (0..8).map(move |bit| (at, 1 << bit)));
+/// The bytes with one bit of the section turned over, and its place: of each bit.
+fn turned(bytes: &[u8]) -> impl Iterator<Item = (usize, u8, Vec<u8>)> + '_ {
+    let bits = (0..FULL_LENGTH).flat_map(|at| (0..8).map(move |bit| (at, 1 << bit)));
     bits.map(|(at, bit)| {
         let mut other = bytes.to_vec();
         other[at] ^= bit;
@@ -35,7 +35,7 @@ fn turned(bytes: &[u8], length: usize) -> impl Iterator<Item = (usize, u8, Vec<u
 fn the_copy_alone_is_the_support_copy() {
     let (bytes, copy) = (full_section(), full_copy());
     assert!(is_support_copy(&bytes, SecurityHeader, &copy));
-    for (at, bit, other) in turned(&copy, FULL_LENGTH) {
+    for (at, bit, other) in turned(&copy) {
         assert!(!is_support_copy(&bytes, SecurityHeader, &other), "byte {at}, bit {bit:#04x}");
     }
     for end in 0..FULL_LENGTH {
@@ -54,8 +54,9 @@ fn what_stands_behind_the_section_does_not_count() {
     for end in FULL_LENGTH..=bytes.len() {
         assert!(is_support_copy(&bytes[..end], SecurityHeader, &copy));
     }
-    for (.., other) in turned(&bytes, bytes.len()).skip(8 * FULL_LENGTH) {
-        assert!(is_support_copy(&other, SecurityHeader, &copy));
+    for byte in 0..=u8::MAX {
+        let longer = [&bytes[..FULL_LENGTH], &[byte; 20]].concat();
+        assert!(is_support_copy(&longer, SecurityHeader, &copy), "{byte:#04x} behind");
     }
 }
 
@@ -63,7 +64,7 @@ fn what_stands_behind_the_section_does_not_count() {
 fn private_bits_of_the_section_do_not_count() {
     let (bytes, copy) = (full_section(), full_copy());
     assert!(is_support_copy(&copy, SecurityHeader, &copy), "the copy has nothing private");
-    for (at, bit, other) in turned(&bytes, FULL_LENGTH) {
+    for (at, bit, other) in turned(&bytes) {
         let same = same_summary(&other, &bytes, SecurityHeader);
         assert_eq!(is_support_copy(&other, SecurityHeader, &copy), same, "byte {at}, bit {bit:#04x}");
     }
@@ -80,7 +81,7 @@ fn a_refused_section_has_no_copy() {
     assert!(!is_support_copy(&bytes, PropertiesHeader, &copy), "read the other way");
     // the same bit turned over in both: the section's masked bytes
     let mut refused = 0;
-    for ((at, bit, section), (.., masked)) in turned(&bytes, FULL_LENGTH).zip(turned(&copy, FULL_LENGTH)) {
+    for ((at, bit, section), (.., masked)) in turned(&bytes).zip(turned(&copy)) {
         let is_copy = support_copy_vec(&section, SecurityHeader).as_ref() == Ok(&masked);
         let found = is_support_copy(&section, SecurityHeader, &masked);
         assert_eq!(found, is_copy, "byte {at}, bit {bit:#04x}");

@@ -4,9 +4,10 @@ use std::env;
 use std::path::{Path, PathBuf};
 use std::process::{exit, Command};
 
-const SOURCES: [&str; 7] = [
+const SOURCES: [&str; 8] = [
     "tuned/read.c",
     "tuned/copy.c",
+    "tuned/check.c",
     "tuned/write.c",
     "tuned/image.c",
     "c/agree.c",

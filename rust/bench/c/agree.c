@@ -71,6 +71,13 @@ bool copies_agree(const section *l, uint8_t *out, uint8_t *tuned_out, size_t len
     return same_output(&library, &tuned) && memcmp(out, tuned_out, length) == 0;
 }
 
+bool checks_agree(const copied *l)
+{
+    const section *x = &l->section;
+    return ugb_is_support_copy(UGB_BYTES(x->s), x->security_first, UGB_BYTES(l->copy)) ==
+           tuned_is_support_copy(UGB_BYTES(x->s), x->security_first, UGB_BYTES(l->copy));
+}
+
 bool writings_agree(const given *l, uint8_t *out, uint8_t *tuned_out, size_t length)
 {
     fill(out, tuned_out, length);

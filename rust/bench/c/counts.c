@@ -31,6 +31,7 @@ typedef struct input {
     const given *given; /* what the section is written from */
     uint8_t s[ROOM];    /* the section */
     size_t s_length;
+    uint8_t copy[ROOM];          /* its support copy, as long */
     uint8_t record[HEAD + ROOM]; /* the section as a record of a day's file */
     uint8_t out[ROOM];
     size_t out_length;
@@ -62,6 +63,8 @@ CALL(call_summarize, ugb_summarize(SECTION, FIRST))
 CALL(call_same_summary, ugb_same_summary(SECTION, SECTION, FIRST))
 CALL(call_label_shown, ugb_label_shown(SECTION, FIRST))
 CALL(call_support_copy, ugb_support_copy(SECTION, FIRST, OUT))
+CALL(call_check_copy, ugb_is_support_copy(SECTION, FIRST, i->copy, i->s_length))
+CALL(call_check_cut_copy, ugb_is_support_copy(SECTION, FIRST, i->copy, i->s_length - 1))
 CALL(call_write, ugb_write_section(i->given->values, &i->given->parts, OUT))
 CALL(call_next_record, ugb_next_record(i->record, HEAD + i->s_length))
 CALL(call_send, send_sample(OUT))
@@ -92,17 +95,18 @@ static void count_sections(const char *what, call *call)
 }
 
 /* A byte of the secured section is made wrong and right again. */
-static void count_refused(const char *what, size_t at, uint8_t wrong)
+static void count_refused(const char *what, const char *step, call *call, size_t at, uint8_t wrong)
 {
     uint8_t *byte = &inputs[SECURED].s[at], right = *byte;
     *byte = wrong;
-    count("read, refused", what, call_read, &inputs[SECURED]);
+    count(what, step, call, &inputs[SECURED]);
     *byte = right;
 }
 
 static void make_section(input *i)
 {
     i->s_length = ugb_write_section(i->given->values, &i->given->parts, i->s, ROOM).length;
+    ugb_support_copy(SECTION, FIRST, i->copy, ROOM);
     uint8_t head[HEAD] = {0x57, 0x52, FIRST, 0, i->s_length % 256, i->s_length / 256};
     memcpy(i->record, head, HEAD);
     memcpy(i->record + HEAD, i->s, i->s_length);
@@ -119,6 +123,7 @@ int main(void)
     count_sections("same summary", call_same_summary);
     count_sections("label shown", call_label_shown);
     count_sections("support copy", call_support_copy);
+    count_sections("check copy", call_check_copy);
     count_sections("write", call_write);
     count_sections("next record", call_next_record);
     count("send", "signed, 40-unit title", call_send, secured);
@@ -127,10 +132,13 @@ int main(void)
     count("queue image write", "direct name", call_write_image, secured);
 
     size_t properties = ugb_summarize(secured->s, secured->s_length, true).summary.security.parts.length;
-    count_refused("S2, sender kind", 0, 0xA3);
-    count_refused("S11, last unit of the name", properties - 4, 1);
-    count_refused("P3, class", properties + 2, 8);
-    count_refused("P7, last unit of the label", properties + 56 + 498, 1);
+    size_t name_end = properties - 4, label_end = properties + 56 + 498;
+    count_refused("read, refused", "S2, sender kind", call_read, 0, 0xA3);
+    count_refused("read, refused", "S11, last unit of the name", call_read, name_end, 1);
+    count_refused("read, refused", "P3, class", call_read, properties + 2, 8);
+    count_refused("read, refused", "P7, last unit of the label", call_read, label_end, 1);
+    count_refused("check copy, refused", "P7, last unit of the label", call_check_copy, label_end, 1);
+    count("check copy, no", "a byte short", call_check_cut_copy, secured);
     count("queue image read, refused", "last unit of the name", call_read_cut_image, secured);
     secured->out_length = 0;
     count("support copy, refused", "output short", call_support_copy, secured);

@@ -9,6 +9,11 @@ typedef struct section {
     bool security_first;
 } section;
 
+typedef struct copied {
+    section section;
+    ugb_bytes copy;
+} copied;
+
 /* A call with what is lent to it, repeated. */
 #define LOOP_OF(name, lent) void loop_##name(const lent *l, uint8_t *out, size_t out_length, uint64_t times)
 
@@ -18,6 +23,7 @@ LOOP_OF(summarize, section);
 LOOP_OF(same_summary, section);
 LOOP_OF(label_shown, section);
 LOOP_OF(support_copy, section);
+LOOP_OF(is_support_copy, copied);
 LOOP_OF(write_section, given);
 LOOP_OF(send, void);
 LOOP_OF(defaulted, void);
@@ -27,6 +33,7 @@ LOOP_OF(write_image, given_image);
 /* The tuned calls. */
 LOOP_OF(tuned_read, section);
 LOOP_OF(tuned_support_copy, section);
+LOOP_OF(tuned_is_support_copy, copied);
 LOOP_OF(tuned_write_section, given);
 LOOP_OF(tuned_read_image, ugb_bytes);
 LOOP_OF(tuned_write_image, given_image);
@@ -34,6 +41,7 @@ LOOP_OF(tuned_write_image, given_image);
 /* Whether a tuned call answers as the library's, and leaves its output as the library's leaves its. */
 bool reads_agree(const section *l);
 bool copies_agree(const section *l, uint8_t *out, uint8_t *tuned_out, size_t length);
+bool checks_agree(const copied *l);
 bool writings_agree(const given *l, uint8_t *out, uint8_t *tuned_out, size_t length);
 bool image_reads_agree(const ugb_bytes *l);
 bool image_writings_agree(const given_image *l, uint8_t *out, uint8_t *tuned_out, size_t length);

@@ -29,6 +29,7 @@ static inline void looked_at(const ugb_refusal *refusal)
 
 #define ANSWERED(name, lent, type, call) LOOP(name, lent, type answer = call, looked_at(&answer.refusal))
 #define SECTION l->s.bytes, l->s.length
+#define COPIED UGB_BYTES(l->section.s), l->section.security_first, UGB_BYTES(l->copy)
 #define OUT out, out_length
 
 ANSWERED(read, section, ugb_reading, ugb_read(SECTION, l->security_first))
@@ -49,6 +50,8 @@ LOOP(tuned_read_image, ugb_bytes, ugb_image_read answer; tuned_read_image(&answe
      looked_at(&answer.refusal))
 
 LOOP(same_summary, section, bool answer = ugb_same_summary(SECTION, OUT, l->security_first), )
+LOOP(is_support_copy, copied, bool answer = ugb_is_support_copy(COPIED), )
+LOOP(tuned_is_support_copy, copied, bool answer = tuned_is_support_copy(COPIED), )
 
 /* The bytes that are shown. */
 static inline ugb_bytes label_shown(const section *l)

@@ -3,13 +3,14 @@
 
 use compare::library::section_values;
 use independent::queue::HEAD;
+use ugbariteyo::{is_support_copy, support_copy_vec, First};
 
 use crate::c;
 use crate::refusals::Refused;
 use crate::samples::{image, RequestSample, Sample};
 
 /// Panics where a tuned call answers otherwise than the library: on these samples, in outputs long enough and a byte
-/// short, with a class that is not listed, on every refused section, and on images.
+/// short, with a class that is not listed, on every refused section, on right and wrong copies, and on images.
 pub fn check(samples: &[Sample]) {
     for sample in samples {
         let section = sample.section();
@@ -20,13 +21,39 @@ pub fn check(samples: &[Sample]) {
         let writes =
             values.map(|values| lengths.map(|length| c::Given::new(&section_values(&values)).agrees(length)));
         assert_eq!((reads, writes), ([true; 2], [[true; 2]; 2]), "tuned: {}", sample.name);
+        check_copies(sample);
     }
     for refused in Refused::all() {
         let section = c::Section::new(&refused.section, refused.first);
         assert!(section.agrees(refused.section.len()), "tuned: {}", refused.what);
+        let copy = support_copy_vec(&refused.accepted, refused.first).expect("it is accepted");
+        same_answer(&refused.section, refused.first, &copy, false);
     }
     check_images();
     check_request();
+}
+
+/// The copy itself; not with a bit more, of which a long one has fewer, nor another length, nor the section.
+fn check_copies(sample: &Sample) {
+    let (section, first) = (sample.section(), sample.first());
+    let mut copy = support_copy_vec(&section, first).expect("the sample is legal");
+    let length = copy.len();
+    same_answer(&section, first, &copy, true);
+    same_answer(&section, first, &section, false);
+    for at in (0..length).step_by(1 + length / 1_000).chain([length - 1]) {
+        copy[at] ^= 0x80;
+        same_answer(&section, first, &copy, false);
+        copy[at] ^= 0x80;
+    }
+    copy.push(0);
+    same_answer(&section, first, &copy, false);
+    same_answer(&section, first, &copy[..length - 1], false);
+}
+
+/// The library and the tuned check both answer this.
+fn same_answer(section: &[u8], first: First, copy: &[u8], answer: bool) {
+    assert_eq!(is_support_copy(section, first, copy), answer, "a copy of {} bytes", copy.len());
+    assert!(c::Copied::new(section, first, copy).agrees(), "tuned: a copy of {} bytes", copy.len());
 }
 
 /// The sample's value behind every type, the next one too, with suffixes that go with some of them; whole and cut, and

@@ -38,6 +38,20 @@ impl<'a> Section<'a> {
     }
 }
 
+/// A section, and what may be its support copy.
+#[repr(C)]
+pub struct Copied<'a> {
+    section: Section<'a>,
+    copy: Bytes<'a>,
+}
+
+impl<'a> Copied<'a> {
+    /// The section at the start of `bytes`, and this copy.
+    pub fn new(bytes: &'a [u8], first: First, copy: &'a [u8]) -> Self {
+        Self { section: Section::new(bytes, first), copy: copy.into() }
+    }
+}
+
 /// What a section is written from.
 #[repr(C)]
 pub struct Given<'a> {
@@ -108,6 +122,7 @@ loops! {
     same_summary(Section<'_>) = loop_same_summary;
     label_shown(Section<'_>) = loop_label_shown;
     support_copy(Section<'_>) = loop_support_copy;
+    is_support_copy(Copied<'_>) = loop_is_support_copy;
     write_section(Given<'_>) = loop_write_section;
     send(Nothing) = loop_send;
     defaulted(Nothing) = loop_defaulted;
@@ -115,6 +130,7 @@ loops! {
     write_image(GivenImage<'_>) = loop_write_image;
     tuned_read(Section<'_>) = loop_tuned_read;
     tuned_support_copy(Section<'_>) = loop_tuned_support_copy;
+    tuned_is_support_copy(Copied<'_>) = loop_tuned_is_support_copy;
     tuned_write_section(Given<'_>) = loop_tuned_write_section;
     tuned_read_image(Bytes<'_>) = loop_tuned_read_image;
     tuned_write_image(GivenImage<'_>) = loop_tuned_write_image;
@@ -123,6 +139,7 @@ loops! {
 extern "C" {
     fn reads_agree(section: &Section<'_>) -> bool;
     fn copies_agree(section: &Section<'_>, out: *mut u8, tuned_out: *mut u8, length: usize) -> bool;
+    fn checks_agree(copied: &Copied<'_>) -> bool;
     fn writings_agree(given: &Given<'_>, out: *mut u8, tuned_out: *mut u8, length: usize) -> bool;
     fn image_reads_agree(image: &Bytes<'_>) -> bool;
     fn image_writings_agree(given: &GivenImage<'_>, out: *mut u8, tuned_out: *mut u8, length: usize) -> bool;
@@ -134,6 +151,14 @@ impl Section<'_> {
         let [mut out, mut tuned_out] = [vec![0; length], vec![0; length]];
         // SAFETY: as for the loops.
         unsafe { reads_agree(self) && copies_agree(self, out.as_mut_ptr(), tuned_out.as_mut_ptr(), length) }
+    }
+}
+
+impl Copied<'_> {
+    /// Whether the tuned check is the library's.
+    pub fn agrees(&self) -> bool {
+        // SAFETY: as for the loops.
+        unsafe { checks_agree(self) }
     }
 }
 
@@ -165,10 +190,11 @@ impl GivenImage<'_> {
 
 #[cfg(test)]
 mod tests {
-    use super::{Bytes, Given, GivenImage, Section};
+    use super::{Bytes, Copied, Given, GivenImage, Section};
     use compare::library::{first, section_values};
     use independent::generate::{case, image, image_values, section_values as generated_values, Random};
     use independent::queue::HEAD;
+    use ugbariteyo::support_copy_vec;
 
     const CASES: u64 = 20_000;
 
@@ -184,6 +210,31 @@ mod tests {
                 let agrees = [length + 9, length, length - 1].map(|length| section.agrees(length));
                 assert_eq!(agrees, [true; 3], "security first {security_first}, {:02X?}", case.bytes);
             }
+        }
+    }
+
+    #[test]
+    fn tuned_check_agrees() {
+        let mut r = Random::new(5);
+        for _ in 0..CASES {
+            let case = case(&mut r);
+            let (bytes, first) = (&case.bytes, first(case.security_first));
+            // of a refused section, its own bytes
+            let mut copy = support_copy_vec(bytes, first).unwrap_or_else(|_| bytes.clone());
+            let agrees = |copy: &[u8]| {
+                assert!(Copied::new(bytes, first, copy).agrees(), "{first:?}, {bytes:02X?}, {copy:02X?}");
+            };
+            agrees(&copy);
+            agrees(bytes);
+            agrees(&copy[..copy.len().saturating_sub(1)]);
+            for at in 0..copy.len().min(1_000) {
+                let bit = 1 << r.below(8);
+                copy[at] ^= bit;
+                agrees(&copy);
+                copy[at] ^= bit;
+            }
+            copy.push(0);
+            agrees(&copy);
         }
     }
 

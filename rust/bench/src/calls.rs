@@ -1,12 +1,14 @@
 //! The rows that time calls. What is timed from C and what is tuned answers as the library called from Rust does.
 
+use std::hint::black_box;
+
 use compare::library::{request as library_request, section_values};
 use ugbariteyo as library;
 
 use crate::c;
 use crate::output::Output;
 use crate::samples::{image, RequestSample, Sample};
-use crate::table::Column::{FromC, Library, Memcpy, Memset, PlainRust, TunedC};
+use crate::table::Column::{FromC, Library, Memcmp, Memcpy, Memset, PlainRust, TunedC};
 use crate::table::{Column, Row};
 use crate::timing::{taken, Repeated};
 
@@ -77,6 +79,22 @@ pub fn support_copy(sample: &Sample) -> Row {
         (TunedC, out.lent(|out, times| c::tuned_support_copy(&lent, out, times))),
     ];
     written(format!("support copy, {}", sample.name), &out, calls)
+}
+
+/// The check of a section's support copy, beside memcmp of as many bytes that are equal.
+pub fn is_support_copy(sample: &Sample) -> Row {
+    let (section, first) = (sample.section(), sample.first());
+    let copy = library::support_copy_vec(&section, first).expect("the sample is legal");
+    let equal = copy.clone();
+    let lent = c::Copied::new(&section, first, &copy);
+    let calls = vec![
+        (Library, taken(|| library::is_support_copy(&section, first, &copy))),
+        (FromC, from_c(|times| c::is_support_copy(&lent, &mut [], times))),
+        (PlainRust, taken(|| independent::is_support_copy(&section, sample.security_first, &copy))),
+        (TunedC, from_c(|times| c::tuned_is_support_copy(&lent, &mut [], times))),
+        (Memcmp, taken(|| *black_box(&equal) == copy)),
+    ];
+    Row::timed(format!("check copy, {}", sample.name), copy.len(), calls)
 }
 
 /// Writing a section.

@@ -1,6 +1,6 @@
-//! `bench [DATE]` times the proved library beside plain safe Rust, tuned C, memcpy and memset, and prints a table of
-//! ratios. `bench growth [DATE]` prints how the library's times grow with each part of a section, and what refusing
-//! costs. The listing program is the environment's LISTING, else `target/bin/listing` of the repository.
+//! `bench [DATE]` times the proved library beside plain safe Rust, tuned C, memcpy, memset and memcmp, and prints a
+//! table of ratios. `bench growth [DATE]` prints how the library's times grow with each part of a section, and what
+//! refusing costs. The listing program is the environment's LISTING, else `target/bin/listing` of the repository.
 
 #![deny(unsafe_code)]
 
@@ -59,6 +59,7 @@ fn bench(date: Option<&str>) -> io::Result<()> {
     short.iter().for_each(|sample| println!("{}", calls::same_summary(sample)));
     short.iter().for_each(|sample| println!("{}", calls::label_shown(sample)));
     samples.iter().for_each(|sample| println!("{}", calls::support_copy(sample)));
+    samples.iter().for_each(|sample| println!("{}", calls::is_support_copy(sample)));
     samples.iter().for_each(|sample| println!("{}", calls::write_section(sample)));
     println!("{}", calls::send());
     println!("{}", calls::defaulted());

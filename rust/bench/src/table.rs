@@ -13,6 +13,8 @@ pub enum Column {
     TunedC,
     Memcpy,
     Memset,
+    /// Of what only compares, in memcpy's place.
+    Memcmp,
 }
 
 /// The table's first two lines.
@@ -25,13 +27,13 @@ pub struct Row {
     what: String,
     /// The bytes that are read or written.
     bytes: usize,
-    times: [Option<f64>; 6],
+    times: [Option<f64>; 7],
 }
 
 impl Row {
     /// The row of these times.
     pub fn new(what: String, bytes: usize, times: impl IntoIterator<Item = (Column, f64)>) -> Self {
-        let mut row = Self { what, bytes, times: [None; 6] };
+        let mut row = Self { what, bytes, times: [None; 7] };
         times.into_iter().for_each(|(column, time)| row.times[column as usize] = Some(time));
         row
     }
@@ -45,11 +47,13 @@ impl Row {
 
 impl fmt::Display for Row {
     fn fmt(&self, f: &mut fmt::Formatter<'_>) -> fmt::Result {
-        let [library, from_c, held_against @ ..] = self.times;
+        let [library, from_c, rust, tuned, memcpy, memset, memcmp] = self.times;
+        let mark = memcmp.map_or("", |_| " (memcmp)");
         write!(f, "| {} | {} |", self.what, self.bytes)?;
         [library, from_c].into_iter().try_for_each(|time| cell(f, time.map(Time)))?;
-        held_against.into_iter().try_for_each(|time| {
-            cell(f, time.map(Time))?;
+        let held_against = [(rust, ""), (tuned, ""), (memcpy.or(memcmp), mark), (memset, "")];
+        held_against.into_iter().try_for_each(|(time, mark)| {
+            cell(f, time.map(|time| format!("{}{mark}", Time(time))))?;
             cell(f, library.zip(time).map(|(library, time)| format!("{:.2}", library / time)))
         })
     }

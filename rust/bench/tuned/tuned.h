@@ -1,5 +1,5 @@
-/* The limit that the benchmark holds the library against: reading, support copy and writing of sections, reading and
- * writing of images, in C tuned by hand for x86-64, with the answers of ugbariteyo.h for every input. */
+/* The limit that the benchmark holds the library against: reading, support copy, its check and writing of sections,
+ * reading and writing of images, in C tuned by hand for x86-64, with the answers of ugbariteyo.h for every input. */
 #ifndef TUNED_H
 #define TUNED_H
 
@@ -10,6 +10,7 @@
 void tuned_read(ugb_reading *answer, const uint8_t *s, size_t s_length, bool security_first);
 void tuned_read_image(ugb_image_read *answer, const uint8_t *s, size_t s_length);
 __typeof__(ugb_support_copy) tuned_support_copy;
+__typeof__(ugb_is_support_copy) tuned_is_support_copy;
 __typeof__(ugb_write_section_positional) tuned_write_section;
 __typeof__(ugb_write_image) tuned_write_image;
 

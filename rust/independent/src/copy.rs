@@ -2,7 +2,7 @@
 
 use crate::read::read_by;
 use crate::section::{Part, Summary, PROPERTIES_FIXED, SECURITY_FIXED};
-use crate::steps::{SectionStep, READING};
+use crate::steps::{SectionStep, LENGTHS, READING};
 use crate::{read, Refusal};
 
 /// Writes the section with every private bit zero to the start of `out` and gives its length.
@@ -46,6 +46,21 @@ pub(crate) fn support_copy_by(
     }
     copy[at] &= 0x0F;
     Ok(length)
+}
+
+/// What the support copy of `input` would be if its length alone were judged: the copy of an accepted
+/// section, and what a tool that does not judge makes of a refused one. None where the input ends before
+/// its sizes do.
+pub fn copy_by_sizes(input: &[u8], security_first: bool) -> Option<Vec<u8>> {
+    copy_by(&LENGTHS, input, security_first)
+}
+
+/// The support copy by the steps of `order` in a vector of its own, where none of them fails.
+pub(crate) fn copy_by(order: &[SectionStep], input: &[u8], security_first: bool) -> Option<Vec<u8>> {
+    let mut copy = vec![0; input.len()];
+    let length = support_copy_by(order, input, security_first, &mut copy).ok()?;
+    copy.truncate(length);
+    Some(copy)
 }
 
 /// Whether both inputs are accepted and their summaries are the same.

@@ -5,10 +5,12 @@
 //! reading, copying, writing, sending or listing allocates for a section, and what is read is
 //! borrowed from the input.
 //!
-//! - [`read`], [`support_copy`], [`same_summary`], [`label_shown`]: sections read and copied.
+//! - [`read`], [`support_copy`], [`same_summary`], [`label_shown`]: sections read and copied;
+//!   [`is_support_copy`]: whether a copy is right that someone else made.
 //! - [`mod@write`]: sections written from values and parts.
 //! - [`queue`]: queue format images, [`request`]: send requests, [`listing`]: day files, [`copies`]: their copies.
-//! - [`field`]: the field or part that a place lies in.
+//! - [`field`]: the field or part that a place lies in; [`may_differ`]: the bits that a refusal does not
+//!   depend on; [`copy_by_sizes`]: what a refused section's copy would be.
 //! - [`generate`]: cases made at random for a comparison; [`neighbours`]: what steps a case breaks
 //!   together; [`cause`]: which one refuses it; [`planted`]: wrong versions that a comparison has to find.
 
@@ -19,6 +21,7 @@ mod bytes;
 pub mod cause;
 pub mod copies;
 mod copy;
+mod differ;
 pub mod field;
 pub mod generate;
 pub mod listing;
@@ -26,6 +29,7 @@ mod lists;
 pub mod neighbours;
 mod order;
 pub mod planted;
+mod proposed;
 pub mod queue;
 mod read;
 mod refusal;
@@ -34,7 +38,9 @@ mod section;
 mod steps;
 pub mod write;
 
-pub use copy::{label_shown, same_summary, support_copy};
+pub use copy::{copy_by_sizes, label_shown, same_summary, support_copy};
+pub use differ::may_differ;
+pub use proposed::is_support_copy;
 pub use read::read;
 pub use refusal::{number, Refusal};
 pub use section::{

@@ -128,6 +128,9 @@ const OUTPUT: SectionStep = Step { name: "13", answer: number::OUTPUT_SHORT, tes
 pub(crate) const READING: [SectionStep; 19] =
     [S1, S2, S3, S4, S5, S6, S7, S8, S9, S10, S11, P1, P2, P3, P4, P5, P6, P7, OUTPUT];
 
+/// The steps of reading on how long the input is: where they pass, all that the sizes give is there.
+pub(crate) const LENGTHS: [SectionStep; 4] = [S1, S9, P1, P6];
+
 /// The steps of the section writer: "28, then the same steps without S1, S9, P1, P6, then 13". S5
 /// is not among them: no certificate that fails it passes 28.
 pub(crate) const WRITING: [SectionStep; 15] =
@@ -164,7 +167,7 @@ impl Headers<'_> {
     }
 
     /// The place of the refusal by a step with this test.
-    fn place(&self, test: &Test) -> usize {
+    pub(crate) fn place(&self, test: &Test) -> usize {
         let place = match test {
             Test::Security { place, .. } => self.security.as_ref().map_or(START, place),
             Test::Properties { place, .. } => place(&self.properties),

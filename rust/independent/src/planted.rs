@@ -1,14 +1,19 @@
 //! Wrong versions that a comparison has to find: for each kind one or two plain functions with their
 //! answer or their output changed a little, and every function with two neighbouring steps of its
-//! list exchanged. What C-17 says of places has its wrong versions in files of their own.
+//! list exchanged. What C-17 says of places and C-24 of copies and refusals has its wrong versions in files
+//! of their own.
 
+mod dependent;
 mod fields;
 mod places;
+mod proposed;
 
+pub use dependent::{read_dependent, support_copy_dependent, Dependence};
 pub use fields::{field_of, WrongField};
 pub use places::{
     copy_day_at_headers, list_placed, read_placed, support_copy_placed, write_placed, WrongPlace,
 };
+pub use proposed::{is_support_copy, WrongYes};
 
 use std::io::{self, Read, Write};
 

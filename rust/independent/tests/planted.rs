@@ -3,9 +3,9 @@
 use independent::field::field_of;
 use independent::generate::{case, day, image, image_values, place_case, place_values, request};
 use independent::generate::{section_values, Random};
-use independent::planted::{WrongField, WrongPlace};
+use independent::planted::{Dependence, WrongField, WrongPlace, WrongYes};
 use independent::{copies, listing, planted, queue, read, request as requests, support_copy, write_section};
-use independent::{Refusal, Section};
+use independent::{copy_by_sizes, is_support_copy, Refusal, Section};
 
 /// In how many of 2,000 cases `differs` says so.
 fn differences(seed: u64, differs: impl Fn(&mut Random) -> bool) -> usize {
@@ -86,6 +86,54 @@ fn fields() {
                 field_of(input, first, number, place) != planted::field_of(wrong, input, first, number, place)
             };
             differs(number, place) || (0..input.len().min(1_000) + 2).any(|place| differs(0, place))
+        });
+        assert!(found > 0, "{wrong:?}");
+    }
+}
+
+/// Copies that one may propose for `input`: what its sizes give, with one byte left as it is, longer or
+/// shorter; the section itself, and none.
+fn proposals(input: &[u8], security_first: bool, r: &mut Random) -> Vec<Vec<u8>> {
+    let Some(copy) = copy_by_sizes(input, security_first) else { return vec![vec![]] };
+    let mut kept = copy.clone();
+    let at = r.below(copy.len());
+    kept[at] = input[at];
+    let section = input[..copy.len()].to_vec();
+    let mut as_long = copy.clone();
+    as_long.resize(input.len(), 0);
+    let mut hidden = copy.clone();
+    hidden.get_mut(16..18).unwrap_or_default().fill(0);
+    let shorter = copy[..copy.len() - 1].to_vec();
+    vec![[&copy[..], &[1]].concat(), shorter, kept, section, as_long, hidden, copy, vec![]]
+}
+
+#[test]
+fn proposed_copies() {
+    for wrong in WrongYes::all() {
+        let found = differences(16, |r| {
+            let case = case(r);
+            let (input, first) = (&case.bytes[..], case.security_first);
+            proposals(input, first, r).iter().any(|copy| {
+                is_support_copy(input, first, copy) != planted::is_support_copy(wrong, input, first, copy)
+            })
+        });
+        assert!(found > 0, "{wrong:?}");
+    }
+}
+
+#[test]
+fn refusals_that_depend_on_private_bits() {
+    for wrong in Dependence::ALL {
+        let found = readings(17, |input, first| planted::read_dependent(wrong, input, first));
+        assert!(found > 0, "{wrong:?}");
+        let found = differences(17, |r| {
+            let case = case(r);
+            let (input, first) = (&case.bytes[..], case.security_first);
+            writers_differ(
+                input.len(),
+                |out| support_copy(input, first, out),
+                |out| planted::support_copy_dependent(wrong, input, first, out),
+            )
         });
         assert!(found > 0, "{wrong:?}");
     }

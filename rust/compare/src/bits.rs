@@ -44,6 +44,25 @@ pub fn carried(summary: &Summary<'_>) -> Vec<u8> {
     mask.without_x(summary)
 }
 
+/// The fields and parts of a section that have private bits, each with its padding apart; those without bytes are left
+/// out. Of a byte of Flags only the X bits are private.
+pub fn private(summary: &Summary<'_>) -> Vec<Part> {
+    let parts = &summary.parts;
+    let at = properties_at(summary);
+    let end = parts.body.start + parts.body.length;
+    let mut all = vec![(at, 1), (at + 4, 20), (at + 28, 4), (end, summary.length - end)];
+    all.extend([parts.extension, parts.body].map(|part| (part.start, part.length)));
+    if let Some(security) = summary.security {
+        let sid = if security.flags & 0xF == 1 { 2 } else { 0 };
+        all.extend([(1, 1), (parts.identity.start + sid, parts.identity.length - sid)]);
+        all.extend([parts.key, parts.signature, parts.certificate].map(|part| (part.start, part.length)));
+        let padded = [parts.key, parts.signature, parts.certificate, parts.provider];
+        all.extend(padded.map(|part| (part.start + part.length, part.length.wrapping_neg() % 4)));
+    }
+    let with_bytes = all.into_iter().filter(|(_, length)| *length != 0);
+    with_bytes.map(|(start, length)| Part { start, length }).collect()
+}
+
 /// Where the MessagePropertiesHeader begins.
 fn properties_at(summary: &Summary<'_>) -> usize {
     summary.security.map_or(0, |security| security.length)
@@ -92,16 +111,21 @@ pub fn private_changed(input: &[u8], judged: &[u8], r: &mut Random) -> Vec<u8> {
     changed
 }
 
-/// The input with one judged bit flipped. The last judged bit lies in the fixed bytes or in the label.
+/// The input with one judged bit flipped.
 pub fn judged_flipped(input: &[u8], judged: &[u8], summary: &Summary<'_>, r: &mut Random) -> Vec<u8> {
-    let end = summary.parts.label.start + summary.parts.label.length;
     let mut flipped = input.to_vec();
+    let (at, bit) = judged_bit(judged, summary, r);
+    flipped[at] ^= bit;
+    flipped
+}
+
+/// A judged bit, and its byte's place. The last judged bit lies in the fixed bytes or in the label.
+pub fn judged_bit(judged: &[u8], summary: &Summary<'_>, r: &mut Random) -> (usize, u8) {
+    let end = summary.parts.label.start + summary.parts.label.length;
     loop {
-        let at = r.below(end);
-        let bit = 1 << r.below(8);
+        let (at, bit) = (r.below(end), 1 << r.below(8));
         if judged[at] & bit != 0 {
-            flipped[at] ^= bit;
-            return flipped;
+            return (at, bit);
         }
     }
 }

@@ -1,5 +1,5 @@
-//! 01's examples, C-14's, C-17's and C-21's, held against each side. Where nothing else is said, their parts have
-//! content that passes S10, S11 and P7.
+//! 01's examples, C-14's, C-17's, C-21's and C-24's, held against each side. Where nothing else is said, their parts
+//! have content that passes S10, S11 and P7.
 
 use crate::lend::lend;
 use crate::report::{agree, Check, Tally};
@@ -9,7 +9,7 @@ use crate::side::{Answer, FieldAt, Part, Refusal, Request, SectionValues, Side, 
 type Example = (&'static str, fn(&dyn Side) -> Check);
 
 /// The examples, by their numbers.
-const EXAMPLES: [Example; 15] = [
+const EXAMPLES: [Example; 16] = [
     ("example 1", zero_bytes),
     ("example 2", parts_in_a_row),
     ("example 3", longest_label),
@@ -25,6 +25,7 @@ const EXAMPLES: [Example; 15] = [
     ("C-14's example", level_and_algorithm),
     ("C-17's example", places),
     ("C-21's example", retired),
+    ("C-24's example", proposed),
 ];
 
 /// Holds every example against both sides.
@@ -336,4 +337,34 @@ fn retired(side: &dyn Side) -> Check {
         sent.is("the section sent", &if retired { refused(29, 0) } else { Ok(written.bytes()) })?;
     }
     Ok(())
+}
+
+/// The section of example 2 with private bits set: its copy, with each of them kept, longer, shorter, and where the
+/// section is refused; then a refusal that stays whatever they are.
+fn proposed(side: &dyn Side) -> Check {
+    let Input(copy) = Input::plain(3, 0, 5, 2, b"a\0b\0\0\0\0\0\0\0\0\0\0\0\0\0");
+    let mut section = copy.clone();
+    section[0] = 0xF0;
+    section[4..24].fill(b'c');
+    section[28..32].fill(b't');
+    section[62..].copy_from_slice(b"extenbo???");
+    let says = |what, input: &[u8], copy: &[u8], wanted| {
+        agree(what, &side.is_support_copy(input, false, copy), &wanted)
+    };
+    says("the copy", &section, &copy, true)?;
+    says("the copy, with bytes behind the section", &[&section[..], b"more"].concat(), &copy, true)?;
+    for at in [0..1, 4..24, 28..32, 62..67, 67..69, 68..69, 69..72] {
+        let mut kept = copy.clone();
+        kept[at.clone()].copy_from_slice(&section[at]);
+        says("a copy that keeps private bits", &section, &kept, false)?;
+    }
+    says("a copy with bytes behind it", &section, &[&copy[..], &[0; 4]].concat(), false)?;
+    says("a copy that is cut", &section, &copy[..71], false)?;
+    let unlisted = |mut section: Vec<u8>| {
+        section[3] = 0x10;
+        section
+    };
+    says("the copy of a refused section", &unlisted(section.clone()), &unlisted(copy.clone()), false)?;
+    reads(side, &unlisted(section), false, refused(10, 2))?;
+    reads(side, &unlisted(copy), false, refused(10, 2))
 }

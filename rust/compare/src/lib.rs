@@ -1,14 +1,16 @@
 //! Holds the proved library against the independent one: a header is read once by each, and the two have to agree on
 //! every input.
 //!
-//! [`side`] puts both behind one interface; [`sections`], [`writing`], [`places`], [`fields`], [`queues`],
+//! [`side`] puts both behind one interface; [`sections`], [`writing`], [`places`], [`fields`], [`alike`], [`queues`],
 //! [`requests`], [`listing`] and [`copies`] compare two sides on generated cases, [`classes`], [`pairs`], [`retired`],
-//! [`sweeps`] and [`examples`] on fixed ones; [`properties`] says what has to hold of one side alone. Each takes its
-//! sides as arguments, so that a test can put a wrong one there.
+//! [`sweeps`] and [`examples`] on fixed ones; [`proposed`] makes the copies that both are asked about, and
+//! [`properties`] says what has to hold of one side alone. Each takes its sides as arguments, so that a test can put a
+//! wrong one there.
 
 #![forbid(unsafe_code)]
 #![warn(missing_docs)]
 
+pub mod alike;
 pub mod bits;
 pub mod classes;
 pub mod copies;
@@ -20,6 +22,7 @@ pub mod listing;
 pub mod pairs;
 pub mod places;
 pub mod properties;
+pub mod proposed;
 pub mod queues;
 pub mod report;
 pub mod requests;

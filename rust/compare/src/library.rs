@@ -64,6 +64,9 @@ impl Side for Library {
     fn support_copy(&self, input: &[u8], security_first: bool, out: &mut [u8]) -> Answer<usize> {
         library::support_copy(input, first(security_first), out).map_err(refusal)
     }
+    fn is_support_copy(&self, input: &[u8], security_first: bool, copy: &[u8]) -> bool {
+        library::is_support_copy(input, first(security_first), copy)
+    }
     fn write_section(&self, values: &SectionValues<'_>, out: &mut [u8]) -> Answer<usize> {
         library::write_section(&section_values(values), out).map_err(refusal)
     }

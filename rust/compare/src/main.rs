@@ -16,7 +16,7 @@ use compare::report::{Tally, HEADER};
 use compare::second::Independent;
 use compare::side::Sides;
 use compare::{
-    classes, copies, examples, fields, listing, pairs, places, properties, queues, requests, retired,
+    alike, classes, copies, examples, fields, listing, pairs, places, properties, queues, requests, retired,
     sections, sweeps, writing,
 };
 use independent::generate::Random;
@@ -118,12 +118,13 @@ fn run(arguments: Arguments) -> io::Result<u64> {
     Ok(differences)
 }
 
-/// The kinds of C-17, and the refusals that each is to meet.
-fn run_places(sides: Sides<'_>, factor: u64, r: &mut Random) -> [(Tally, &'static [u32]); 4] {
+/// The kinds of C-17 and C-24's on refusals, and the refusals that each is to meet.
+fn run_places(sides: Sides<'_>, factor: u64, r: &mut Random) -> [(Tally, &'static [u32]); 5] {
     [
         (places::run_reading(sides, 300_000 * factor, r), &SECTION),
         (places::run_writing(sides, 200_000 * factor, r), &WRITER_STEPS),
         (places::run_units(sides), &[7, 12]),
         (fields::run(sides, 100_000 * factor, r), &SECTION),
+        (alike::run(sides, 100_000 * factor, r), &SECTION),
     ]
 }

@@ -1,9 +1,10 @@
-//! Demand 3, as properties of one side alone.
+//! Demand 3, and C-24 of copies, as properties of one side alone.
 
 use independent::generate::{case, long_case, Random};
 
 use crate::bits;
 use crate::lend::lend;
+use crate::proposed;
 use crate::report::{agree, require, Check, Difference, Tally};
 use crate::sections::described;
 use crate::side::{Side, Summary};
@@ -37,7 +38,10 @@ fn hold(
     earlier: Option<&[u8]>,
     r: &mut Random,
 ) -> Check {
-    let summary = match side.summarize(input, security_first) {
+    let answer = side.summarize(input, security_first);
+    let says = |_: &str, copy: &[u8]| Ok(side.is_support_copy(input, security_first, copy));
+    proposed::compare(&says, input, security_first, &answer, r)?;
+    let summary = match answer {
         Ok(summary) => summary,
         Err(refusal) => {
             let copy = lend(input.len().min(4_096), |out| side.support_copy(input, security_first, out));
@@ -89,6 +93,7 @@ fn agreeing(
     let what = "the summary of an input that agrees";
     agree(what, &side.summarize(&other, security_first), &Ok(*summary))?;
     require("the same summary of an input that agrees", side.same_summary(input, &other, security_first))?;
+    require("the copy is that of an input that agrees", side.is_support_copy(&other, security_first, copy))?;
     agree("the copy of an input that agrees", &copy_of(side, &other, security_first)?[..], copy)
 }
 
@@ -102,6 +107,9 @@ fn pair(side: &dyn Side, one: &[u8], security_first: bool, two: &[u8], summary: 
     agree("agreeing in judged bits goes both ways", &bits::agrees(two, &bits::judged(&other), one), &agrees)?;
     agree("the same summary exactly when judged bits agree", &same, &agrees)?;
     agree("equal summaries exactly when judged bits agree", &(other == *summary), &agrees)?;
-    let copies = copy_of(side, one, security_first)? == copy_of(side, two, security_first)?;
+    let copy = copy_of(side, two, security_first)?;
+    let is_its_copy = side.is_support_copy(one, security_first, &copy);
+    agree("the copy of another exactly when judged bits agree", &is_its_copy, &agrees)?;
+    let copies = copy_of(side, one, security_first)? == copy;
     agree("equal copies exactly when judged bits agree", &copies, &agrees)
 }

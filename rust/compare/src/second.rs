@@ -32,6 +32,9 @@ impl Side for Independent {
     fn support_copy(&self, input: &[u8], security_first: bool, out: &mut [u8]) -> Answer<usize> {
         independent::support_copy(input, security_first, out)
     }
+    fn is_support_copy(&self, input: &[u8], security_first: bool, copy: &[u8]) -> bool {
+        independent::is_support_copy(input, security_first, copy)
+    }
     fn write_section(&self, values: &SectionValues<'_>, out: &mut [u8]) -> Answer<usize> {
         independent::write_section(values, out)
     }

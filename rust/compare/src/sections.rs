@@ -1,4 +1,4 @@
-//! Sections read, copied and written again by both sides.
+//! Sections read, copied and written again by both sides, and copies of them judged.
 
 use independent::generate::{case, long_case, Case, Random};
 use independent::neighbours::{self, List};
@@ -7,6 +7,7 @@ use independent::PROPERTIES_FIXED;
 
 use crate::bits;
 use crate::lend::lend;
+use crate::proposed;
 use crate::report::{agree, hex, Check, Tally};
 use crate::side::{Answer, Reading, Refusal, Sides, Summary};
 
@@ -52,6 +53,9 @@ pub fn compare(sides: Sides<'_>, input: &[u8], security_first: bool, r: &mut Ran
     agree("the reading's summary", &reading.map(|reading| reading.summary), &summary)?;
     sides.both("the label shown", |side| side.label_shown(input, security_first, STAND_IN))?;
     compare_copies(sides, input, security_first, &summary, r)?;
+    let ask =
+        |what: &str, copy: &[u8]| sides.both(what, |side| side.is_support_copy(input, security_first, copy));
+    proposed::compare(&ask, input, security_first, &summary, r)?;
     compare_written_again(sides, input, security_first, &reading)?;
     compare_same_summary(sides, input, security_first, &summary, r)
 }
@@ -92,7 +96,7 @@ fn compare_written_again(
 }
 
 /// The same summary: of the input with itself, with private bits changed, and with a judged bit flipped; of a refused
-/// one with any bit flipped.
+/// one with any bit flipped. The input's copy is that of the second and not of the third.
 fn compare_same_summary(
     sides: Sides<'_>,
     input: &[u8],
@@ -110,10 +114,15 @@ fn compare_same_summary(
         return same("the same summary of a refused one", &bits::flipped(input, r), false);
     };
     let judged = bits::judged(summary);
-    same("the same summary with private bits changed", &bits::private_changed(input, &judged, r), true)?;
-    same(
-        "the same summary with a judged bit flipped",
-        &bits::judged_flipped(input, &judged, summary, r),
-        false,
-    )
+    let copy = bits::only(&judged, input);
+    let copied = |what, b: &[u8], wanted: bool| {
+        let said = sides.both(what, |side| side.is_support_copy(b, security_first, &copy))?;
+        agree(what, &said, &wanted)
+    };
+    let agreeing = bits::private_changed(input, &judged, r);
+    same("the same summary with private bits changed", &agreeing, true)?;
+    copied("the copy of one with private bits changed", &agreeing, true)?;
+    let another = bits::judged_flipped(input, &judged, summary, r);
+    same("the same summary with a judged bit flipped", &another, false)?;
+    copied("the copy of one with a judged bit flipped", &another, false)
 }

@@ -186,6 +186,8 @@ pub trait Side {
     fn field_of(&self, input: &[u8], security_first: bool, refusal: Refusal) -> FieldAt;
     /// The support copy.
     fn support_copy(&self, input: &[u8], security_first: bool, out: &mut [u8]) -> Answer<usize>;
+    /// Whether `copy` is the support copy of an accepted section.
+    fn is_support_copy(&self, input: &[u8], security_first: bool, copy: &[u8]) -> bool;
     /// The section of these values.
     fn write_section(&self, values: &SectionValues<'_>, out: &mut [u8]) -> Answer<usize>;
     /// The section written from what is read of `input`.

@@ -8,12 +8,13 @@ use compare::second::{defaulted, reading, sent, summary, Independent};
 use compare::side::{Answer, Defaulted, FieldAt, Image, Line, Next, Reading, Record, Records, Refusal};
 use compare::side::{Request, SectionValues, Sent, Side, Sides, Source, Summary};
 use compare::{
-    classes, examples, fields, listing, pairs, places, properties, queues, requests, retired, sections,
-    sweeps, writing,
+    alike, classes, examples, fields, listing, pairs, places, properties, queues, requests, retired,
+    sections, sweeps, writing,
 };
 use independent::generate::Random;
 use independent::neighbours::{List, Neighbours};
-use independent::planted::{self, WrongField, WrongPlace, WrongRetired, WrongStep, WrongVerdict};
+use independent::planted::{self, Dependence, WrongField, WrongPlace};
+use independent::planted::{WrongRetired, WrongStep, WrongVerdict, WrongYes};
 
 /// The generated cases of a kind.
 const CASES: u64 = 8_000;
@@ -44,6 +45,11 @@ enum Fault {
     /// A place is named as another field, or where a refusal gave it.
     FieldAtPlace(WrongField),
     FieldOfRefusal(WrongField),
+    /// A refusal depends on private bits where a section is read, or where it is copied.
+    Depends(Dependence),
+    DependsCopied(Dependence),
+    /// A proposed copy is judged otherwise.
+    Proposed(WrongYes),
     /// Private bits count.
     SameSummary,
     /// A label of one unit is taken for none.
@@ -117,6 +123,9 @@ impl Side for Planted {
             Fault::PlaceRead(wrong) => {
                 planted::read_placed(wrong, input, security_first).map(|section| reading(&section, input))
             }
+            Fault::Depends(wrong) => {
+                planted::read_dependent(wrong, input, security_first).map(|section| reading(&section, input))
+            }
             Fault::Exchanged(List::Reading, pair) => planted::read_exchanged(pair.at, input, security_first)
                 .map(|section| reading(&section, input)),
             _ => Independent.read(input, security_first),
@@ -127,6 +136,7 @@ impl Side for Planted {
             Fault::Read => planted::read(input, security_first).map(|section| summary(&section)),
             Fault::Exchanged(List::Reading, _)
             | Fault::ClassRead(_)
+            | Fault::Depends(_)
             | Fault::PlaceRead(_)
             | Fault::Verdict(_)
             | Fault::Retired(_) => self.read(input, security_first).map(|reading| reading.summary),
@@ -162,12 +172,21 @@ impl Side for Planted {
             Fault::PlaceCopied(wrong) | Fault::PlaceRead(wrong) => {
                 planted::support_copy_placed(wrong, input, security_first, out)
             }
+            Fault::Depends(wrong) | Fault::DependsCopied(wrong) => {
+                planted::support_copy_dependent(wrong, input, security_first, out)
+            }
             Fault::Exchanged(List::Reading, pair) => {
                 planted::support_copy_exchanged(pair.at, input, security_first, out)
             }
             _ => Independent.support_copy(input, security_first, out),
         };
         self.written(answer, out)
+    }
+    fn is_support_copy(&self, input: &[u8], security_first: bool, copy: &[u8]) -> bool {
+        match self.0 {
+            Fault::Proposed(wrong) => planted::is_support_copy(wrong, input, security_first, copy),
+            _ => Independent.is_support_copy(input, security_first, copy),
+        }
     }
     fn write_section(&self, values: &SectionValues<'_>, out: &mut [u8]) -> Answer<usize> {
         let answer = match self.0 {
@@ -292,6 +311,7 @@ fn sections_read_and_copied() {
     faults.push(Fault::RetiredWritten);
     faults.extend(WrongPlace::ALL.map(Fault::PlaceRead));
     faults.extend([WrongPlace::HeaderStart, WrongPlace::UnitAfter].map(Fault::PlaceCopied));
+    faults.extend(WrongYes::all().into_iter().map(Fault::Proposed));
     faults.append(&mut exchanges(List::Reading));
     finds(&faults, |sides| {
         let [sections, _] = sections::run(sides, CASES, &mut Random::new(1));
@@ -355,6 +375,17 @@ fn fields_named() {
 }
 
 #[test]
+fn refused_alike() {
+    let run = |sides: Sides<'_>| alike::run(sides, CASES, &mut Random::new(17));
+    finds(&[], run);
+    // both sides have the fault, so that it shows in what one of them says of two inputs
+    for fault in [Dependence::ALL.map(Fault::Depends), Dependence::ALL.map(Fault::DependsCopied)].concat() {
+        let wrong = run(Sides { one: &Planted(fault), other: &Planted(fault) });
+        assert!(wrong.differences() > 0, "{fault:?} is not found: {wrong}");
+    }
+}
+
+#[test]
 fn sections_swept() {
     let faults = [Fault::Read, Fault::Retired(WrongRetired::Sha1)];
     finds(&faults, |sides| sweeps::run(sides, &mut Random::new(2)));
@@ -364,7 +395,9 @@ fn sections_swept() {
 fn demand_3_of_one_side() {
     let run = |side: &dyn Side| properties::run(side, CASES, &mut Random::new(3));
     assert_eq!(run(&Independent).differences(), 0);
-    for fault in [Fault::SameSummary, Fault::SupportCopy, Fault::Refusal] {
+    let others = [Fault::SameSummary, Fault::SupportCopy, Fault::Refusal];
+    let proposed = WrongYes::all().into_iter().map(Fault::Proposed);
+    for fault in others.into_iter().chain(proposed) {
         assert!(run(&Planted(fault)).differences() > 0, "{fault:?}");
     }
 }
@@ -445,6 +478,7 @@ fn the_same_fault_on_both_sides() {
         (Fault::RetiredSent(WrongStep::LeftOut), requests),
         (Fault::Read, sections),
         (Fault::SameSummary, sections),
+        (Fault::Proposed(WrongYes::PropertiesX), sections),
         (Fault::Refusal, sections),
         (Fault::WriteSection, writing),
         (Fault::WriteImage, reading_images),
@@ -484,5 +518,8 @@ fn examples_of_the_paper() {
     use WrongPlace::{AtIdentity, EmptyAtFlags, EmptyAtSize, HeaderStart, LastUnit, OddAtStart};
     let placed = [HeaderStart, LastUnit, EmptyAtFlags, EmptyAtSize, AtIdentity].map(Fault::PlaceRead);
     let written = [HeaderStart, LastUnit, OddAtStart].map(Fault::PlaceWritten);
-    finds(&[&[Read, WriteSection, old][..], &retired, &placed, &written].concat(), examples::run);
+    use WrongYes::{CorrelationId, InputLengthAsked, LastBodyByte, Longer, PropertiesX, RefusedBySizes};
+    let proposed = [CorrelationId, InputLengthAsked, LastBodyByte, Longer, PropertiesX, RefusedBySizes];
+    let proposed = proposed.map(Fault::Proposed);
+    finds(&[&[Read, WriteSection, old][..], &retired, &placed, &written, &proposed].concat(), examples::run);
 }

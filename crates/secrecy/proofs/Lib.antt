@@ -1,5 +1,6 @@
 pub mod Alike
 pub mod Demand3
+pub mod HeadersAlike
 pub mod Held
 pub mod Properties
 pub mod Proposed

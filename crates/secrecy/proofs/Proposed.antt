@@ -1,5 +1,5 @@
 -- Partners' copies, from demand 3's laws: of an accepted section the support copy is one row of bytes.
-use Prim.Native.Nat.{ℕ, _%_, _^_, _≤_, _<_}
+use Prim.Native.Nat.{ℕ, _<_}
 use mathlib.Core.Path.{_≡_, sym, ap, subst, _∙_}
 use mathlib.Core.Bool.{Bool}
 use mathlib.Core.List.{List, _++_}
@@ -7,14 +7,13 @@ use mathlib.Core.Logic.{_↔_}
 use native.Mathlib.Decide.{decLt}
 use native.Mathlib.Nat.{mod-eq-of-lt}
 use native.Mathlib.Omega.{arith}
-use lib.ListN.{length, getD, take}
+use lib.ListN.{getD, take}
 use lib.Seq.{ext-getD}
 use Rattle.octets.specs.Octets.{Octets}
-use Rattle.rules.specs.Judged.{Agrees, bit, copyOf, judged}
+use Rattle.rules.specs.Judged.{bit, copyOf, judged}
 use Rattle.rules.specs.Reading.{summarize}
-use Rattle.rules.specs.Support.{IsSupportCopy, supportBytes}
-use Rattle.rules.specs.declared.refusal.Refusal.{Refusal}
-use Rattle.rules.specs.declared.section.Summarized.the-variants.{Accepted, Refused}
+use Rattle.rules.specs.Support.{IsSupportCopy}
+use Rattle.rules.specs.declared.section.Summarized.the-variants.{Accepted}
 use Rattle.rules.specs.declared.section.Summary.{Summary}
 use Rattle.rules.proofs.Laws.Accepted.{section-passed}
 use Rattle.rules.proofs.Laws.Bits.{bits-mod}

@@ -1,13 +1,13 @@
 -- A proposed copy that is the support copy: the section is accepted, and it is as long as that and holds the same bytes.
 use Prim.Native.Nat.{ℕ}
-use mathlib.Core.Path.{_≡_, sym, ap, subst, _∙_}
-use mathlib.Core.Bool.{Bool, true, false, not, cond}
-use mathlib.Core.List.{List, []}
+use mathlib.Core.Path.{_≡_, ap, subst, _∙_}
+use mathlib.Core.Bool.{Bool, true, false, not}
+use mathlib.Core.List.{List}
 use mathlib.Core.Logic.{_↔_}
 use borrow.Author.Tests.{not-true}
 use lib.ListN.{length, take}
 use Rattle.rules.specs.Judged.{copyOf, judged, masked}
-use Rattle.rules.specs.Reading.{headerAt, judge, startAt, summarize, summaryAt}
+use Rattle.rules.specs.Reading.{headerAt, judge, startAt, summaryAt}
 use Rattle.rules.specs.Summary.{noSecurity}
 use Rattle.rules.specs.Support.{IsSupportCopy}
 use Rattle.rules.specs.declared.section.Summary.{Summary}

@@ -1,5 +1,5 @@
 -- The loop's invariant: while `zero` holds all the bytes passed are zero, and of zeros it holds. The measure is what is left of the length.
-use Prim.Native.Nat.{ℕ, _-_, _≤_, _<_}
+use Prim.Native.Nat.{ℕ, _-_, _≤_}
 use denote.Ref.{now}
 use mathlib.Core.Path.{_≡_, refl, sym, ap, _∙_}
 use mathlib.Core.Bool.{true, and-eq-true-iff}

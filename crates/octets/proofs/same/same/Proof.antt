@@ -1,6 +1,6 @@
 -- The loop's invariant: while `equal` holds all the bytes passed are equal, and of equal slices it holds. The measure is what is left of the
 -- length.
-use Prim.Native.Nat.{ℕ, _-_, _≤_, _<_}
+use Prim.Native.Nat.{ℕ, _-_, _≤_}
 use denote.Ref.{now}
 use mathlib.Core.Path.{_≡_, refl, ap}
 use mathlib.Core.Bool.{true, false≢true, and-eq-true-iff}

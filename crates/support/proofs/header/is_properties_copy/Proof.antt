@@ -1,10 +1,10 @@
 -- Behind the label the mask keeps nothing.
-use Prim.Native.Nat.{ℕ, _+_, _-_}
+use Prim.Native.Nat.{_+_, _-_}
 use denote.Ref.{now}
-use mathlib.Core.Path.{_≡_, refl, _∙_}
-use mathlib.Core.List.{List, _++_}
+use mathlib.Core.Path.{refl, _∙_}
+use mathlib.Core.List.{_++_}
 use native.Mathlib.Omega.{arith}
-use lib.ListN.{length, length-append, length-replicate, replicate}
+use lib.ListN.{length-append, length-replicate, replicate}
 use borrow.Author.Needs.{needs}
 use Rattle.octets.proofs.Laws.Steps.{the}
 use Rattle.rules.specs.Properties.{propertiesRow}
@@ -35,7 +35,8 @@ returns c =
     let size = start .args .size .0 in
     let label = the tie.After-bytes (search) .bytes in
     let n = label .result .0 in
-    compared-fails size (replicate (size - (56 + n)) 0) _ (head (search)) (omega (arith, label .ensures, start .pre)) (omega (arith, label .ensures, start .pre))
+    compared-fails size (replicate (size - (56 + n)) 0) _ (head (search))
+    (omega (arith, label .ensures, start .pre)) (omega (arith, label .ensures, start .pre))
     (head-zeros f n size (label .ensures) (start .pre .end)) (c .if1 .taken)
 
 returns-2 : tie.Need-returns-2

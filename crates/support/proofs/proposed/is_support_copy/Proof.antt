@@ -1,9 +1,7 @@
 -- The refusal and the length pick the case.
-use Prim.Native.Nat.{ℕ}
 use denote.Ref.{now}
-use mathlib.Core.Path.{_≡_, ap, sym, _∙_}
-use mathlib.Core.Bool.{Bool, false≢true}
-use mathlib.Core.List.{List}
+use mathlib.Core.Path.{_≡_, ap}
+use mathlib.Core.Bool.{false≢true}
 use native.Mathlib.Omega.{arith}
 use borrow.Author.Needs.{needs}
 use lib.ListN.{length}
@@ -19,11 +17,11 @@ use Rattle.support.proofs.proposed.is_support_copy.Tie as tie
 
 returns : tie.Need-returns
 returns c =
-    let some = some-told _ _ (the tie.After-base-judge (search) .base-judge .ensures) (c .if1 .taken) in
+    let some = some-told _ _ (the tie.After-base-judge (search) .base-judge .ensures) (λ z. omega (arith, z)) in
     (λ e. absurd (false≢true e), λ x. absurd (none-refused _ _ _ some x))
 
 none : (c : tie.Else1) → let a = the tie.Start (search) .args in judge (a .security-first) (now (a .s)) .number ≡ 0
-none c = none-told _ _ (the tie.After-base-judge (search) .base-judge .ensures) (c .if1 .left)
+none c = none-told _ _ (the tie.After-base-judge (search) .base-judge .ensures) (omega arith)
 
 -- where the section lies
 at : (c : tie.After-section-end)
@@ -43,7 +41,9 @@ returns-2 c =
     let a = the tie.Start (search) .args in
     let end = ap (λ (x : Placed). x .end .0) (at (search)) in (
       λ e. absurd (false≢true e),
-      λ x. absurd (c .if2 .taken (proposed-length (a .security-first) (now (a .s)) (now (a .proposed)) (none (search)) x ∙ sym end)),
+      λ x.
+          let size = proposed-length (a .security-first) (now (a .s)) (now (a .proposed)) (none (search)) x in
+          absurd (omega (arith, size, end)),
     )
 
 returns-3 : tie.Need-returns-3

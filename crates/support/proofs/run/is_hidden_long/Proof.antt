@@ -1,13 +1,7 @@
 -- The bytes looked at are so many zeros.
 use denote.Ref.{now}
-use mathlib.Core.Path.{_≡_, sym, ap, _∙_}
-use mathlib.Core.List.{List, []}
-use Prim.Native.Nat.{ℕ, _+_, _-_, _%_}
-use native.Mathlib.Omega.{arith}
 use borrow.Author.Needs.{needs}
 use Rattle.octets.proofs.Laws.Steps.{the}
-use lib.ListN.{length, replicate}
-use Rattle.octets.proofs.Laws.Over.{length-lent}
 use Rattle.support.proofs.Laws.Compared.{zeros-same}
 use Rattle.support.proofs.run.is_hidden_long.Statement.{statement}
 use Rattle.support.proofs.run.is_hidden_long.Tie as tie

@@ -1,9 +1,5 @@
 -- The bytes compared are those that the mask keeps whole.
 use denote.Ref.{now}
-use mathlib.Core.Path.{_≡_, sym, ap, _∙_}
-use mathlib.Core.List.{List, []}
-use Prim.Native.Nat.{ℕ, _+_, _-_, _%_}
-use native.Mathlib.Omega.{arith}
 use borrow.Author.Needs.{needs}
 use Rattle.octets.proofs.Laws.Steps.{the}
 use Rattle.support.proofs.Laws.Compared.{kept-same}

@@ -1,6 +1,6 @@
 -- One byte is compared.
 use denote.Ref.{now}
-use Prim.Native.Nat.{ℕ, _%_}
+use Prim.Native.Nat.{_%_}
 use borrow.Author.Needs.{needs}
 use lib.ListN.{getD}
 use lib.Seq.{drop-cons}

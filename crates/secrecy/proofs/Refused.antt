@@ -2,33 +2,38 @@
 use Prim.Native.Nat.{ℕ, _+_, _-_, _≤_, _<_}
 use mathlib.Core.Path.{_≡_, refl, sym, ap, subst, _∙_}
 use mathlib.Core.Bool.{Bool, true, false, not, cond}
-use mathlib.Core.List.{List, [], _++_}
+use mathlib.Core.List.{List, [], _++_, append-assoc}
 use native.Mathlib.Decide.{decLt}
 use native.Mathlib.Omega.{arith}
 use borrow.Author.Tests.{eq-eqb, eqb-false, eqb-true, le-ltb, lt-ltb, ne-eqb}
 use lib.Dec.{eqb, ltb}
-use lib.ListN.{length, getD, replicate}
-use Rattle.rules.specs.Judged.{securityMask}
+use lib.ListN.{length, getD, take, replicate, length-append}
+use lib.Seq.{take-at}
+use Rattle.octets.specs.Padding.{padding}
+use Rattle.rules.specs.Judged.{judged, propertiesBits, securityMask}
 use Rattle.rules.specs.Place.{propertiesRefusal, sectionRefusal, securityPlace, securityRefusal}
-use Rattle.rules.specs.Properties.{propertiesRow}
-use Rattle.rules.specs.Reading.{fullReading, headerAt, judge, labelAt, propertiesNumber, providerInfoAt, read, securityHeader, securityNumber}
-use Rattle.rules.specs.Reading.{startAt, summarize}
+use Rattle.rules.specs.Properties.{labelBytes, propertiesRow}
+use Rattle.rules.specs.Reading.{fieldsAt, fullReading, headerAt, judge, labelAt, propertiesNumber, providerInfoAt, read, securityHeader, securityNumber}
+use Rattle.rules.specs.Reading.{startAt, summarize, summaryAt}
 use Rattle.rules.specs.Refusal.{refusal}
 use Rattle.rules.specs.Row.{rowBits}
 use Rattle.rules.specs.Security.{readSecurity, securityFields, securityLength}
 use Rattle.rules.specs.Security.{securityParts, securityRow}
-use Rattle.rules.specs.Summary.{noSecurity}
+use Rattle.rules.specs.Summary.{noSecurity, propertiesAt, summaryOf}
 use Rattle.rules.specs.Support.{copyAnswer, copyOutput, supportAnswer, supportBytes}
 use Rattle.rules.specs.declared.refusal.Refusal.{Refusal}
 use Rattle.rules.specs.declared.section.Summarized.the-variants.{Refused}
+use Rattle.rules.specs.declared.section.Summary.{Summary}
 use Rattle.rules.specs.declared.security.SecurityFields.{SecurityFields}
-use Rattle.rules.proofs.Laws.Accepted.{summarize-passed, summarize-refused}
-use Rattle.rules.proofs.Laws.Judged.{length-securityBits}
+use Rattle.rules.proofs.Laws.Accepted.{accepted-at, judge-passed, security-number, summarize-passed, summarize-refused}
+use Rattle.rules.proofs.Laws.Judged.{headerMask, judged-eq, length-headerMask, length-securityBits}
 use Rattle.rules.proofs.Laws.Masked.{alike-append}
+use Rattle.rules.proofs.Laws.Named.{properties-size}
+use Rattle.rules.proofs.Laws.Row.{length-rowBits}
 use Rattle.secrecy.proofs.Alike.{BothOctets}
 use Rattle.secrecy.proofs.HeadersAlike.{first-accepted, first-other, info-same, number-same, properties-same, start-same}
 use Rattle.secrecy.proofs.Held.{Held, held-alike}
-use Rattle.secrecy.specs.Refused.{DifferInPrivate, RefusedAlike, SameRefusal, held, propertiesHeld, securityHeld}
+use Rattle.secrecy.specs.Refused.{DifferInPrivate, RefusedAlike, RefusedWith, held, propertiesHeld, securityHeld}
 
 -- the refusal is by a step on the SecurityHeader, or else by one on the MessagePropertiesHeader
 judge-next : (first : Bool) (s : List ℕ) → securityNumber first s ≡ 0
@@ -145,7 +150,7 @@ alikes false o d = alone o (d .size) (record { bits = d .bits })
 
 -- what the functions answer of a refused input is its refusal
 refused-told : (first : Bool) (s t : List ℕ) (r : Refusal) → judge first t ≡ judge first s → summarize first s ≡ Refused r
-    → SameRefusal first s t r
+    → RefusedWith first t r
 unfolding read fullReading supportAnswer supportBytes copyAnswer copyOutput
 refused-told first s t r same e =
     let some : ¬ (judge first s .number ≡ 0) = λ none.
@@ -156,10 +161,36 @@ refused-told first s t r same e =
     ∙ ap Refused same ∙ sym (summarize-refused first s some) ∙ e in
     record { summary = own; reading = rw own; copy = λ out. (rw own, rw own) }
 
+-- of an accepted input, the SecurityHeader's mask, if any, and the fixed bytes' behind it
+header-told : (first : Bool) (s : List ℕ) → securityNumber first s ≡ 0
+    → held first s ≡ headerMask first (headerAt first s) ++ propertiesHeld (startAt first s) s
+unfolding held headerAt securityHeader
+header-told true s e = accepted-told s e
+header-told false s e = refl
+
+judged-told : (first : Bool) (s : List ℕ) → judge first s .number ≡ 0
+    → held first s ≡ take (propertiesAt (summaryAt first s) + 56) (judged (summaryAt first s))
+unfolding propertiesHeld propertiesBits startAt summaryAt summaryOf
+judged-told first s none =
+    let a = judge-passed first s .0 none in
+    let f = fieldsAt first s in
+    let header = headerMask first (headerAt first s) in
+    let row = rowBits 0 propertiesRow in
+    let parts : List ℕ = replicate (labelBytes f) 8 ++ (replicate (f .«extension_size» .0) 0 ++ replicate (f .«message_size» .0) 0) in
+    let pad : List ℕ = replicate (padding 4 (56 + labelBytes f + f .«extension_size» .0 + f .«message_size» .0)) 0 in
+    let p = startAt first s in
+    let size : length (header ++ row) ≡ p + 56 =
+    simp (length-append, length-headerMask first s (headerAt first s) (a .security), length-rowBits, properties-size) in
+    let whole : judged (summaryAt first s) ≡ header ++ row ++ (parts ++ pad) =
+    judged-eq first s (summaryAt first s) a ∙ (simp append-assoc) in
+    header-told first s (security-number first s .1 (a .security))
+    ∙ (rw (le-ltb (length s) (p + 56) (a .properties .fixed)))
+    ∙ sym (ap (take (p + 56)) whole ∙ take-at (header ++ row) (parts ++ pad) (p + 56) size)
+
 pub refused-alike : RefusedAlike
 refused-alike =
     record {
-      judged = λ first s t bs bt d. alikes first (record { left = bs; right = bt }) d .judged;
+      same = λ first s t bs bt d. alikes first (record { left = bs; right = bt }) d .judged;
       refused = λ first s t r bs bt d e. refused-told first s t r (alikes first (record { left = bs; right = bt }) d .judged) e;
       either = λ first s t bs bt d.
           let told = alikes first (record { left = bs; right = bt }) d .told in
@@ -167,4 +198,7 @@ refused-alike =
             size = sym (d .size);
             bits = λ i j l. sym (d .bits i j (subst (λ (ks : List ℕ). j < getD ks i 8) told l));
           };
+      accepted = λ first s m e.
+          let a = accepted-at first s m e in
+          subst (λ (x : Summary). held first s ≡ take (propertiesAt x + 56) (judged x)) (sym (a .1)) (judged-told first s (a .0));
     }

@@ -4,19 +4,21 @@ use Prim.Native.Nat.{ℕ, _+_, _-_, _<_}
 use mathlib.Core.Path.{_≡_}
 use mathlib.Core.Bool.{Bool, true, cond}
 use mathlib.Core.List.{List, [], _++_}
-use lib.ListN.{length, getD, replicate}
+use lib.ListN.{length, getD, replicate, take}
 use lib.Dec.{eqb, ltb}
 use Rattle.octets.specs.Octets.{Octets}
-use Rattle.rules.specs.Judged.{bit, securityMask}
+use Rattle.rules.specs.Judged.{bit, judged, securityMask}
 use Rattle.rules.specs.Properties.{propertiesRow}
 use Rattle.rules.specs.Reading.{judge, read, securityNumber, startAt, summarize}
 use Rattle.rules.specs.Row.{rowBits}
 use Rattle.rules.specs.Security.{securityFields, securityLength, securityRow}
+use Rattle.rules.specs.Summary.{propertiesAt}
 use Rattle.rules.specs.Support.{supportAnswer, supportBytes}
 use Rattle.rules.specs.declared.refusal.Refusal.{Refusal}
 use Rattle.rules.specs.declared.section.Output.the-variants.{Refused as Output·Refused}
 use Rattle.rules.specs.declared.section.Reading.the-variants.{Refused as Reading·Refused}
-use Rattle.rules.specs.declared.section.Summarized.the-variants.{Refused}
+use Rattle.rules.specs.declared.section.Summarized.the-variants.{Accepted, Refused}
+use Rattle.rules.specs.declared.section.Summary.{Summary}
 
 -- Of each byte, in order, how many of its lowest bits may not differ. Of a byte behind the last one told, none may.
 -- a SecurityHeader's: "private bits of an accepted SecurityHeader" may, and "X bits .. (of headers whose fixed bytes are there)"
@@ -38,16 +40,20 @@ pub record DifferInPrivate (first : Bool) (s t : List ℕ) : Type 0 where
   pub size : length t ≡ length s
   pub bits : (i j : ℕ) → j < getD (held first s) i 8 → bit j (getD t i 0) ≡ bit j (getD s i 0)
 
--- "get the same refusal with the same number and place", from every function that gives one
-pub record SameRefusal (first : Bool) (s t : List ℕ) (r : Refusal) : Type 0 where
+-- every function that gives a refusal gives this one, "with the same number and place"
+pub record RefusedWith (first : Bool) (t : List ℕ) (r : Refusal) : Type 0 where
   pub summary : summarize first t ≡ Refused r
   pub reading : read first t ≡ Reading·Refused r
   pub copy : (out : List ℕ) → (supportAnswer first t out ≡ Output·Refused r) × (supportBytes first t out ≡ out)
 
 pub record RefusedAlike : Type 0 where
   -- where no step fails the number is 0: what differs so from an accepted input is accepted
-  pub judged : (first : Bool) (s t : List ℕ) → Octets s → Octets t → DifferInPrivate first s t → judge first t ≡ judge first s
+  pub same : (first : Bool) (s t : List ℕ) → Octets s → Octets t → DifferInPrivate first s t → judge first t ≡ judge first s
+  -- "get the same refusal"
   pub refused : (first : Bool) (s t : List ℕ) (r : Refusal) → Octets s → Octets t → DifferInPrivate first s t
-      → summarize first s ≡ Refused r → SameRefusal first s t r
+      → summarize first s ≡ Refused r → RefusedWith first t r
   -- either of the two may be the one that the bits are told by
   pub either : (first : Bool) (s t : List ℕ) → Octets s → Octets t → DifferInPrivate first s t → DifferInPrivate first t s
+  -- of an accepted input the bits told are those that are judged, of its SecurityHeader and of its MessagePropertiesHeader's fixed bytes
+  pub accepted : (first : Bool) (s : List ℕ) (m : Summary) → summarize first s ≡ Accepted m
+      → held first s ≡ take (propertiesAt m + 56) (judged m)

@@ -145,8 +145,8 @@ module _ {s t : List ℕ} (o : BothOctets s t) (size : length t ≡ length s) (h
       go (no there) false e = other-first (eqb-false (securityNumber true s) 0 e) (omega arith)
 
 alikes : (first : Bool) {s t : List ℕ} → BothOctets s t → DifferInPrivate first s t → Alikes first s t
-alikes true o d = first-one o (d .size) (record { bits = d .bits })
-alikes false o d = alone o (d .size) (record { bits = d .bits })
+alikes true o d = first-one o (omega (arith, d .size)) (record { bits = λ i j l. d .bits i j (omega (arith, l)) })
+alikes false o d = alone o (omega (arith, d .size)) (record { bits = λ i j l. d .bits i j (omega (arith, l)) })
 
 -- what the functions answer of a refused input is its refusal
 refused-told : (first : Bool) (s t : List ℕ) (r : Refusal) → judge first t ≡ judge first s → summarize first s ≡ Refused r
@@ -196,7 +196,9 @@ refused-alike =
           let told = alikes first (record { left = bs; right = bt }) d .told in
           record {
             size = sym (d .size);
-            bits = λ i j l. sym (d .bits i j (subst (λ (ks : List ℕ). j < getD ks i 8) told l));
+            bits = λ i j l.
+                let same = ap (λ (ks : List ℕ). getD ks i 8) told in
+                sym (d .bits i j (omega (arith, same, l)));
           };
       accepted = λ first s m e.
           let a = accepted-at first s m e in

@@ -19,6 +19,7 @@ use Rattle.rules.specs.Security.{certAt, identityHead, keyAt, providerAt, readS
 use Rattle.rules.specs.Security.{securityParts, securityRow, signatureAt}
 use Rattle.rules.specs.Summary.{partOf}
 use Rattle.rules.specs.declared.properties.PropertiesFields.{PropertiesFields}
+use Rattle.rules.specs.declared.refusal.Refusal.{Refusal}
 use Rattle.rules.specs.declared.security.SecurityFields.{SecurityFields}
 use Rattle.rules.proofs.Laws.Accepted.{header-fits, security-number}
 use Rattle.rules.proofs.Laws.Masked.{Alike, alike-append}
@@ -29,6 +30,10 @@ use Rattle.secrecy.proofs.Held.{Held, held-alike, held-behind, within-b
 use Rattle.secrecy.proofs.ReadAlike.{head-same}
 use Rattle.secrecy.proofs.Security.{SameSecurity, security-alike}
 use Rattle.secrecy.specs.Refused.{propertiesHeld}
+
+-- the refusal by the steps on a MessagePropertiesHeader at p
+abbrev pub refusedAt : List ℕ → ℕ → Refusal
+refusedAt s p = propertiesRefusal (propertiesNumber s p) p (labelAt s p)
 
 -- the steps see no more of an identity than its head
 read-head : (n : ℕ) (f : SecurityFields) (x y info : List ℕ) → identityHead f x ≡ identityHead f y
@@ -88,11 +93,11 @@ module _ {s t : List ℕ} (o : BothOctets s t) (size : length t ≡ length s) wh
     unfolding startAt headerAt securityHeader securityParts
     start-same = ap securityLength (sym (e .fields))
 
-  -- a MessagePropertiesHeader at p, behind so many bytes that are told
+  -- the refusal by a step on a MessagePropertiesHeader at p, which lies behind so many bytes that are told
   module _ (p : ℕ) (ks : List ℕ) (before : length ks ≡ p) (h : Held (ks ++ propertiesHeld p s) s t) where
     -- whose fixed bytes are not all there
     properties-cut : length s < p + 56
-        → propertiesRefusal (propertiesNumber t p) p (labelAt t p) ≡ propertiesRefusal (propertiesNumber s p) p (labelAt s p)
+        → refusedAt t p ≡ refusedAt s p
     unfolding propertiesNumber readProperties propertiesRefusal propertiesPlace
     properties-cut cut = rw (lt-ltb (length s) (p + 56) cut, lt-ltb (length t) (p + 56) (omega arith))
 
@@ -118,17 +123,17 @@ module _ {s t : List ℕ} (o : BothOctets s t) (size : length t ≡ length s) wh
           ap (λ (f : PropertiesFields). partOf t (propertiesParts p f .label)) (sym properties-fields)
           ∙ sym (within-both s t (p + 56) n size (held-behind o told (p + 56) n (omega arith)))
 
-      properties-there : propertiesRefusal (propertiesNumber t p) p (labelAt t p) ≡ propertiesRefusal (propertiesNumber s p) p (labelAt s p)
+      properties-there : refusedAt t p ≡ refusedAt s p
       unfolding propertiesNumber
       properties-there =
           ap (λ (x : List ℕ). propertiesRefusal (readProperties (length t) p (propertiesFields (drop p t)) x) p x) label-same
           ∙ ap (λ (f : PropertiesFields). propertiesRefusal (readProperties (length t) p f (labelAt s p)) p (labelAt s p)) (sym properties-fields)
           ∙ ap (λ (n : ℕ). propertiesRefusal (readProperties n p (propertiesFields (drop p s)) (labelAt s p)) p (labelAt s p)) size
 
-    pub properties-same : propertiesRefusal (propertiesNumber t p) p (labelAt t p) ≡ propertiesRefusal (propertiesNumber s p) p (labelAt s p)
+    pub properties-same : refusedAt t p ≡ refusedAt s p
     properties-same = go (decLt (length s) (p + 56))
       where
         go : Dec (length s < p + 56)
-            → propertiesRefusal (propertiesNumber t p) p (labelAt t p) ≡ propertiesRefusal (propertiesNumber s p) p (labelAt s p)
+            → refusedAt t p ≡ refusedAt s p
         go (yes cut) = properties-cut cut
         go (no there) = properties-there (omega arith)

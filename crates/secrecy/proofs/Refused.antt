@@ -11,9 +11,9 @@ use lib.ListN.{length, getD, take, replicate, length-append}
 use lib.Seq.{take-at}
 use Rattle.octets.specs.Padding.{padding}
 use Rattle.rules.specs.Judged.{judged, propertiesBits, securityMask}
-use Rattle.rules.specs.Place.{propertiesRefusal, sectionRefusal, securityPlace, securityRefusal}
+use Rattle.rules.specs.Place.{sectionRefusal, securityPlace, securityRefusal}
 use Rattle.rules.specs.Properties.{labelBytes, propertiesRow}
-use Rattle.rules.specs.Reading.{fieldsAt, fullReading, headerAt, judge, labelAt, propertiesNumber, providerInfoAt, read, securityHeader, securityNumber}
+use Rattle.rules.specs.Reading.{fieldsAt, fullReading, headerAt, judge, providerInfoAt, read, securityHeader, securityNumber}
 use Rattle.rules.specs.Reading.{startAt, summarize, summaryAt}
 use Rattle.rules.specs.Refusal.{refusal}
 use Rattle.rules.specs.Row.{rowBits}
@@ -31,14 +31,12 @@ use Rattle.rules.proofs.Laws.Masked.{alike-append}
 use Rattle.rules.proofs.Laws.Named.{properties-size}
 use Rattle.rules.proofs.Laws.Row.{length-rowBits}
 use Rattle.secrecy.proofs.Alike.{BothOctets}
-use Rattle.secrecy.proofs.HeadersAlike.{first-accepted, first-other, info-same, number-same, properties-same, start-same}
+use Rattle.secrecy.proofs.HeadersAlike.{first-accepted, first-other, info-same, number-same, properties-same, refusedAt, start-same}
 use Rattle.secrecy.proofs.Held.{Held, held-alike}
 use Rattle.secrecy.specs.Refused.{DifferInPrivate, RefusedAlike, RefusedWith, held, propertiesHeld, securityHeld}
 
 -- the refusal is by a step on the SecurityHeader, or else by one on the MessagePropertiesHeader
-judge-next : (first : Bool) (s : List ℕ) → securityNumber first s ≡ 0
-    → let p = startAt first s in
-    judge first s ≡ propertiesRefusal (propertiesNumber s p) p (labelAt s p)
+judge-next : (first : Bool) (s : List ℕ) → securityNumber first s ≡ 0 → judge first s ≡ refusedAt s (startAt first s)
 unfolding judge sectionRefusal
 judge-next first s e = rw (eq-eqb (securityNumber first s) 0 e)
 
@@ -100,7 +98,7 @@ module _ {s t : List ℕ} (o : BothOctets s t) (size : length t ≡ length s) (h
       let start = start-same o size first in
       record {
         judged = judge-next true t none
-            ∙ ap (λ (q : ℕ). propertiesRefusal (propertiesNumber t q) q (labelAt t q)) start
+            ∙ ap (refusedAt t) start
             ∙ properties-same o size p mask length-mask h
             ∙ sym (judge-next true s e);
         told = accepted-told t none

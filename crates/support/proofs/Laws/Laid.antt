@@ -104,7 +104,7 @@ module _ (first : Bool) (section : Placed) (s out : List ℕ) (l : SectionLaid f
   pub header-laid : HeaderLaid first (section .start .0) s out
   header-laid = record { passed = l .passed; start = start-laid; output = omega (arith, section-lies) }
 
-  -- what is lent of both from the MessagePropertiesHeader on, once the SecurityHeader's bytes may be written
+  -- what is lent of both from the MessagePropertiesHeader on, the output as it is then
   pub rest-laid : (later : List ℕ) → section .end .0 ≤ length later
       → let p = section .start .0 in
       PropertiesLaid (section .properties) (section .end .0 - p) (take (length s - p) (drop p s)) (take (length later - p) (drop p later))

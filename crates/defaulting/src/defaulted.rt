@@ -3,6 +3,7 @@ use crate::steps::request_steps;
 use requests::properties::Defaulted;
 use requests::properties::Handling;
 use requests::properties::HandlingValues;
+use requests::properties::Privacy;
 use requests::properties::Properties;
 use requests::properties::ProviderType;
 use requests::properties::Sender;
@@ -45,6 +46,8 @@ fn handling_of(request: Request) -> Handling
         direct_queue: request.direct_queue,
         split_number,
         provider_name_length: request.provider_name_length,
+        time_to_queue: values::time_to_queue(request),
+        time_to_live: values::time_to_live(request),
     })
 }
 
@@ -75,7 +78,7 @@ fn properties_of(
         message_class: values::message_class(request),
         acknowledge: values::acknowledge(request),
         application_tag: values::application_tag(request),
-        privacy_level: values::privacy_level(request),
+        privacy_level: Privacy::Request(values::privacy_level(request)),
         hash_algorithm: values::hash_algorithm(request),
         encryption_algorithm: values::encryption_algorithm(request),
         body_type: values::body_type(request),

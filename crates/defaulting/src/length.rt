@@ -69,12 +69,11 @@ pub(crate) fn above_the_limit(
     if !security_first(request, sender_id, encryption_key, signature, sender_cert) {
         return ends_above(properties, Bytes(0));
     }
-    let kept = kept_bytes(request, signature);
     let security = SecurityFields {
         flags: 0,
         sender_id_size: Bytes(sender_id.len()),
         encryption_key_size: Bytes(encryption_key.len()),
-        signature_size: Bytes(kept.length.0),
+        signature_size: kept_bytes(request, signature),
         sender_cert_size: Bytes(sender_cert.len()),
         provider_info_size: provider_info_size(request, signature, provider_name),
     };

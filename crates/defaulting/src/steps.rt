@@ -173,10 +173,9 @@ fn too_large(request: Request, encryption_key: &[u8], signature: &[u8], sender_c
     ensures { λ r. ⌜ r
         ≡ tooLarge request (now («encryption_key» .entry)) (now (signature .entry)) (now («sender_cert» .entry)) ⌝ }
 {
-    let kept = kept_bytes(request, signature);
     part_too_large(
         Bytes(encryption_key.len()),
-        kept.length,
+        kept_bytes(request, signature),
         Bytes(sender_cert.len()),
     )
 }

@@ -1,4 +1,5 @@
 pub mod Amended
+pub mod Carried
 pub mod Fits
 pub mod Flags
 pub mod Legal

@@ -5,10 +5,10 @@ use mathlib.Core.List.{List, [], _∷_}
 use lib.ListN.{length, take, drop, replicate}
 use lib.Dec.{eqb}
 use Rattle.rules.specs.Refusal.{bytes}
-use Rattle.rules.specs.Security.{part}
 use Rattle.requests.specs.Request.{SendRequest, valueOr}
 use Rattle.requests.specs.declared.properties.Handling.{Handling}
 use Rattle.requests.specs.declared.properties.Handling.the-variants.{Known as Handling·Known}
+use Rattle.requests.specs.declared.properties.Privacy.the-variants.{Request as Privacy·Request}
 use Rattle.requests.specs.declared.properties.Properties.{Properties}
 use Rattle.requests.specs.declared.properties.ProviderType.the-variants.{Known as ProviderType·Known}
 use Rattle.requests.specs.declared.properties.Sender.{Sender}
@@ -92,6 +92,16 @@ bodyOf v given = bodyOr given (v .body)
 abbrev pub allocation : Request → ℕ
 allocation v = allocationOr (v .body)
 
+-- C-18: "A time to queue of 0 becomes 0xFFFFFFFF (002); any other, and time to live, is passed on as given"
+unfoldable pub orLargest : ℕ → ℕ
+orLargest time = cond (eqb time 0) 0xFFFFFFFF time
+
+abbrev pub timeToQueue : Request → ℕ
+timeToQueue v = orLargest (v .«time_to_queue»)
+
+abbrev pub timeToLive : Request → ℕ
+timeToLive v = v .«time_to_live»
+
 -- "Encryption without a key counts as not asked."
 unfoldable pub encryption : Request → List ℕ → Bool
 encryption v key = v .encryption && not (eqb (length key) 0)
@@ -128,6 +138,8 @@ handlingOf v =
       «direct_queue» = v .«direct_queue»;
       «split_number» = v .«split_number»;
       «provider_name_length» = v .«provider_name_length»;
+      «time_to_queue» = timeToQueue v;
+      «time_to_live» = timeToLive v;
     })
 
 abbrev pub senderValues : Request → List ℕ → SenderValues
@@ -145,14 +157,14 @@ propertiesOf v title key signature body =
       «message_class» = class v;
       acknowledge = acknowledge v;
       «application_tag» = tag v;
-      «privacy_level» = privacy v;
+      «privacy_level» = Privacy·Request (privacy v);
       «hash_algorithm» = hash v;
       «encryption_algorithm» = encryptionAlgorithm v;
       «body_type» = bodyType v;
       «message_size» = bytes (length (bodyOf v body));
       «allocation_body_size» = bytes (allocation v);
       title = record { 0 = length (titleOf title) };
-      signature = part (length signature - count v (length signature)) (length (signatureOf v signature));
+      signature = bytes (length (signatureOf v signature));
     }
 
 abbrev pub properties : SendRequest → Properties

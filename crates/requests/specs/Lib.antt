@@ -1,4 +1,5 @@
 pub mod Amended
+pub mod Carried
 pub mod Defaults
 pub mod Request
 pub mod Section

@@ -14,6 +14,8 @@ use Rattle.rules.specs.declared.security.SecurityFields.{SecurityFields}
 use Rattle.requests.specs.Request.{SendRequest}
 use Rattle.requests.specs.Defaults.{acknowledge, allocation, bodyType, class, encryptionAlgorithm, hash, privacy, providerType}
 use Rattle.requests.specs.Defaults.{bodyOf, senderValues, signatureOf, titleOf}
+use Rattle.requests.specs.declared.properties.Privacy.{Privacy}
+use Rattle.requests.specs.declared.properties.Privacy.the-variants.{Packet as Privacy·Packet, Request as Privacy·Request}
 use Rattle.requests.specs.declared.properties.SenderValues.{SenderValues}
 use Rattle.requests.specs.declared.request.Request.{Request}
 
@@ -25,6 +27,11 @@ signed signature = not (eqb (length signature) 0)
 unfoldable pub packetPrivacy : ℕ → ℕ
 packetPrivacy level = cond (eqb level 2) 3 level
 
+-- the level that a packet holds
+unfoldable pub packetLevel : Privacy → ℕ
+packetLevel (Privacy·Request level) = packetPrivacy level
+packetLevel (Privacy·Packet level) = level
+
 -- ".. then add the null; an empty result gives no label"
 unfoldable pub labelWith : List ℕ → List ℕ
 labelWith [] = []
@@ -34,9 +41,12 @@ abbrev pub label : List ℕ → List ℕ
 label title = labelWith (titleOf title)
 
 -- "Provider info is written only for a signature by another provider": its type, and its name with a null added
+abbrev pub provided : Request → List ℕ → Bool
+provided v signature = signed signature && not (v .«default_provider»)
+
 unfoldable pub providerInfo : Request → List ℕ → List ℕ → List ℕ
 providerInfo v signature name =
-    cond (signed signature && not (v .«default_provider»)) (toLe 4 (providerType v) ++ unitBytes (name ++ (0 ∷ []))) []
+    cond (provided v signature) (toLe 4 (providerType v) ++ unitBytes (name ++ (0 ∷ []))) []
 
 -- "A SecurityHeader is written when identity, key, signature or certificate is not empty."
 unfoldable pub securityFirst : Request → List ℕ → List ℕ → List ℕ → List ℕ → Bool

@@ -1,5 +1,6 @@
-// Send requests (002, rpc_ACSendMessageEx): the type, its values with their defaults, what of its parts is kept, and how
-// long its section is.
+// Send requests (002, rpc_ACSendMessageEx): the type, its values with their defaults, what of its parts is kept, how
+// long its section is, and the properties that a request and a section have alike.
+pub mod carried;
 pub mod properties;
 pub mod request;
 pub mod section;

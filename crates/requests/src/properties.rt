@@ -1,11 +1,10 @@
-// The defaulted properties: a request once each absent value has its default, in the groups in which a section carries
-// them or does not. A group that is not carried can be marked as not known. Title and signature are given by what is
-// kept of the request's own parts.
+// The properties of a message, one type for everyone: made from a request, each absent value with its default, or from
+// a section that was read. They stand in the groups in which a section carries them or does not; what it does not carry
+// is not known. Of title and signature they say how much there is: where it lies is no property of the message.
 use crate::request::Number;
 use octets::count::Bytes;
 use octets::count::Units;
 use rules::refusal::Refusal;
-use rules::section::Part;
 
 // What no section carries.
 pub struct HandlingValues {
@@ -17,6 +16,9 @@ pub struct HandlingValues {
     pub direct_queue: bool,
     pub split_number: Number,
     pub provider_name_length: u32,
+    // in seconds
+    pub time_to_queue: u32,
+    pub time_to_live: u32,
 }
 
 pub enum Handling {
@@ -42,6 +44,12 @@ pub enum ProviderType {
     NotKnown,
 }
 
+// A request's privacy, 0, 1 or 2, which a packet holds as 0, 1 or 3, or a packet's level that no request's becomes.
+pub enum Privacy {
+    Request(u32),
+    Packet(u32),
+}
+
 pub struct Properties {
     pub handling: Handling,
     pub sender: Sender,
@@ -49,8 +57,7 @@ pub struct Properties {
     pub message_class: u32,
     pub acknowledge: u32,
     pub application_tag: u32,
-    // the request's 0, 1 or 2, which a packet holds as 0, 1 or 3
-    pub privacy_level: u32,
+    pub privacy_level: Privacy,
     pub hash_algorithm: u32,
     pub encryption_algorithm: u32,
     pub body_type: u32,
@@ -58,8 +65,8 @@ pub struct Properties {
     pub allocation_body_size: Bytes,
     // how many units of the title are kept, without the null
     pub title: Units,
-    // which bytes of the signature are kept
-    pub signature: Part,
+    // how many bytes of the signature are kept, the last of those given
+    pub signature: Bytes,
 }
 
 pub enum Defaulted {

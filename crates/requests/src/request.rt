@@ -61,6 +61,9 @@ pub struct Request {
     // the two numbers of step 5: pulAuthProvNameLenProp, which 01 calls the split number, and ulProvNameLen
     pub split_number: Number,
     pub provider_name_length: u32,
+    // in seconds; a request always gives both
+    pub time_to_queue: u32,
+    pub time_to_live: u32,
     pub correlation: Correlation,
     pub body: Body,
     pub transaction: bool,

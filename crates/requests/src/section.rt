@@ -47,7 +47,7 @@ pub fn security_first(
     if encryption_key.len() != 0 {
         return true;
     }
-    if kept_bytes(request, signature).length.0 != 0 {
+    if kept_bytes(request, signature).0 != 0 {
         return true;
     }
     if sender_cert.len() != 0 {

@@ -2,9 +2,7 @@
 use crate::request::Number;
 use crate::request::Request;
 use octets::count::Bytes;
-use rules::section::Part;
 ghost use mathlib.Core.Path.{_≡_};
-ghost use Prim.Native.Nat.{_-_};
 ghost use lib.ListN.{length};
 ghost use Rattle.requests.specs.Defaults.{count, signatureOf};
 
@@ -25,21 +23,14 @@ pub fn signature_count(request: Request, given: Bytes) -> Bytes
     }
 }
 
-// Which bytes of the signature are kept.
-pub fn kept_bytes(request: Request, signature: &[u8]) -> Part
-    ensures { λ r. ⌜ r .start .0 ≡ length (now (signature .entry)) - count request (length (now (signature .entry))) ⌝ }
-    ensures { λ r. ⌜ r .length .0 ≡ length (signatureOf request (now (signature .entry))) ⌝ }
+// How many bytes of the signature are kept.
+pub fn kept_bytes(request: Request, signature: &[u8]) -> Bytes
+    ensures { λ r. ⌜ r .0 ≡ length (signatureOf request (now (signature .entry))) ⌝ }
 {
     let given = signature.len();
     let count = signature_count(request, Bytes(given));
     if given < count.0 {
-        return Part {
-            start: Bytes(0),
-            length: Bytes(given),
-        };
+        return Bytes(given);
     }
-    Part {
-        start: Bytes(given - count.0),
-        length: count,
-    }
+    count
 }

@@ -3,7 +3,7 @@ use crate::request::Request;
 ghost use mathlib.Core.Path.{_≡_};
 ghost use Rattle.requests.specs.Defaults.{acknowledge, auditing, bodyType, class, delivery, deliveryGiven};
 ghost use Rattle.requests.specs.Defaults.{encryption, encryptionAlgorithm, hash, kind, priority, privacy};
-ghost use Rattle.requests.specs.Defaults.{providerType, tag, trace};
+ghost use Rattle.requests.specs.Defaults.{orLargest, providerType, tag, timeToLive, timeToQueue, trace};
 
 pub fn priority(request: Request) -> u32
     ensures { λ r. ⌜ r ≡ priority request ⌝ }
@@ -105,6 +105,28 @@ pub fn provider_type(request: Request) -> u32
 {
     let number = request.provider_type;
     number.value_or(0)
+}
+
+fn or_largest(time: u32) -> u32
+    ensures { λ r. ⌜ r ≡ orLargest time ⌝ }
+{
+    if time == 0 {
+        return 0xFFFFFFFF;
+    }
+    time
+}
+
+pub fn time_to_queue(request: Request) -> u32
+    ensures { λ r. ⌜ r ≡ timeToQueue request ⌝ }
+{
+    or_largest(request.time_to_queue)
+}
+
+// It has no default: 0 stays 0.
+pub fn time_to_live(request: Request) -> u32
+    ensures { λ r. ⌜ r ≡ timeToLive request ⌝ }
+{
+    request.time_to_live
 }
 
 // Encryption without a key counts as not asked.

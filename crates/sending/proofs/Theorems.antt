@@ -7,16 +7,23 @@ use lib.Seq.{drop-at}
 use Rattle.octets.specs.Over.{over}
 use Rattle.rules.specs.Output.{writerOutput}
 use Rattle.rules.specs.Refusal.{bytes, refusal}
+use Rattle.rules.specs.declared.refusal.Checked.{Checked}
+use Rattle.rules.specs.declared.refusal.Checked.the-variants.{Passed, Refused}
 use Rattle.rules.specs.declared.section.Output.the-variants.{Written}
 use Rattle.rules.proofs.Laws.Output.{answer-short, answer-written}
 use Rattle.writing.specs.Writing.{sectionBytes}
 use Rattle.writing.proofs.Laws.Laid.{length-section}
+use Rattle.requests.specs.Amended.{timed, withTimes}
+use Rattle.requests.specs.Carried.{carried}
+use Rattle.requests.specs.Defaults.{encryption, properties, propertiesOf, senderOf, signatureOf}
 use Rattle.requests.specs.Request.{SendRequest}
-use Rattle.requests.specs.Section.{sectionLength}
-use Rattle.requests.specs.Steps.{defaulted}
+use Rattle.requests.specs.Section.{propertiesAt, propertiesFieldsOf, providerInfo, sectionLength, securityFieldsOf, securityFirst}
+use Rattle.requests.specs.Steps.{answerOf, defaulted, requestSteps}
 use Rattle.requests.specs.declared.properties.Defaulted.the-variants.{Properties as Defaulted·Properties}
 use Rattle.requests.specs.declared.properties.Properties.{Properties}
-use Rattle.sending.specs.Send.{answerAfter, givenBy, sendAnswer, sendBytes}
+use Rattle.requests.proofs.Laws.Amended.{steps-amended}
+use Rattle.requests.proofs.Laws.Carried.{privacy-told}
+use Rattle.sending.specs.Send.{answerAfter, givenBy, sendAnswer, sendBytes, valuesOf}
 use Rattle.sending.specs.Theorems.{Sending, Typed}
 use Rattle.sending.proofs.Laws.Carried.{read-back}
 use Rattle.sending.proofs.Laws.Given.{request-placed, wellFormed-by}
@@ -41,8 +48,24 @@ section-length q p id t e =
     let placed = request-placed q id (t .title) (t .providerName) a in
     length-section (givenBy q id) (wellFormed-by q id t a .correlation) (placed .passed) ∙ placed .length
 
+-- of the definitions on the way to the section only `handlingOf` looks at the times, and no other looks at that
+times-answer : (q : SendRequest) (queue live : ℕ) (out : List ℕ) → sendAnswer (withTimes queue live q) out ≡ sendAnswer q out
+unfolding sendAnswer answerAfter defaulted answerOf withTimes timed sectionLength propertiesAt securityFirst securityFieldsOf propertiesFieldsOf providerInfo signatureOf encryption
+times-answer q queue live out =
+    go (requestSteps (withTimes queue live q))
+    ∙ ap (λ (c : Checked). answerAfter q out (answerOf (properties q) c)) (steps-amended .times q queue live)
+  where
+    go : (c : Checked) → answerAfter (withTimes queue live q) out (answerOf (properties (withTimes queue live q)) c)
+        ≡ answerAfter q out (answerOf (properties q) c)
+    go Passed = refl
+    go (Refused r) = refl
+
+times-given : (q : SendRequest) (queue live : ℕ) (id : List ℕ) → givenBy (withTimes queue live q) id ≡ givenBy q id
+unfolding withTimes timed givenBy valuesOf propertiesOf senderOf providerInfo securityFirst signatureOf encryption
+times-given q queue live id = refl
+
 pub sending : Sending
-unfolding sendAnswer answerAfter sendBytes writerOutput over
+unfolding valuesOf carried sendAnswer answerAfter sendBytes writerOutput over
 sending =
     record {
       sent = sent;
@@ -59,5 +82,13 @@ sending =
           λ q p id out r t e room read.
           let s = sectionBytes (givenBy q id) in
           read-clear q id (drop (length s) out) r t (gets q p e .legal) (rw (← held q p id out e room) read);
+      unseen = λ p first id. refl;
+      times =
+          λ q queue live id out.
+          let answer = times-answer q queue live out in (
+            answer,
+            λ i. writerOutput (answer i) (sectionBytes (times-given q queue live id i)) out,
+          );
+      privacy = privacy-told;
       refused = λ q id out r e. rw e;
     }

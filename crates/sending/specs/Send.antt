@@ -14,7 +14,7 @@ use Rattle.writing.specs.Writing.{sectionBytes}
 use Rattle.writing.specs.declared.values.SectionValues.{SectionValues}
 use Rattle.requests.specs.Defaults.{bodyOf, correlationOf, properties, signatureOf}
 use Rattle.requests.specs.Request.{SendRequest}
-use Rattle.requests.specs.Section.{first, label, packetPrivacy, providerInfo, sectionLength, securityFlags}
+use Rattle.requests.specs.Section.{first, label, packetLevel, providerInfo, sectionLength, securityFlags}
 use Rattle.requests.specs.Steps.{defaulted}
 use Rattle.requests.specs.declared.properties.Defaulted.{Defaulted}
 use Rattle.requests.specs.declared.properties.Defaulted.the-variants.{Properties as Defaulted·Properties, Refused as Defaulted·Refused}
@@ -40,7 +40,7 @@ valuesOf p first correlationId =
       «body_type» = p .«body_type»;
       «application_tag» = p .«application_tag»;
       «allocation_body_size» = p .«allocation_body_size»;
-      «privacy_level» = packetPrivacy (p .«privacy_level»);
+      «privacy_level» = packetLevel (p .«privacy_level»);
       «hash_algorithm» = p .«hash_algorithm»;
       «encryption_algorithm» = p .«encryption_algorithm»;
       «correlation_id» = correlationId;

@@ -4,7 +4,6 @@ use crate::units::write_provider_info;
 use crate::values::section_values;
 use defaulting::defaulted::correlation_of;
 use defaulting::defaulted::defaulted;
-use octets::part::within;
 use requests::properties::Defaulted;
 use requests::request::Request;
 use requests::section::security_first;
@@ -109,7 +108,7 @@ pub fn send(
         Defaulted::Properties(p) => p,
     };
     let first = security_first(request, sender_id, encryption_key, signature, sender_cert);
-    let kept = properties.signature;
+    let cut = signature.len() - properties.signature.0;
     let title_units = properties.title.0 as usize;
     let size = properties.message_size.0;
     let mut label = [0u8; 500];
@@ -121,7 +120,7 @@ pub fn send(
         section_values(properties, first, correlation_of(request, correlation_id)),
         sender_id,
         encryption_key,
-        within(signature, kept.start, kept.length),
+        &signature[cut..],
         sender_cert,
         &label[..label_size],
         extension,

@@ -1,4 +1,5 @@
 // The values of a section, out of the defaulted properties of a request.
+use requests::properties::Privacy;
 use requests::properties::Properties;
 use requests::properties::Sender;
 use requests::properties::SenderValues;
@@ -7,7 +8,7 @@ use writing::values::SectionValues;
 ghost use mathlib.Core.Path.{_≡_};
 ghost use mathlib.Core.Bool.{cond};
 ghost use Prim.Native.Nat.{_≤_, _<_};
-ghost use Rattle.requests.specs.Section.{packetPrivacy, securityFlags};
+ghost use Rattle.requests.specs.Section.{packetLevel, packetPrivacy, securityFlags};
 ghost use Rattle.sending.specs.Send.{senderOr, valuesOf};
 
 // The security Flags that a sender sets: EB for encryption, DE for the default provider, and DP always.
@@ -25,6 +26,16 @@ fn packet_privacy(level: u32) -> u32
         return 3;
     }
     level
+}
+
+// A level that no request's privacy becomes is the packet's own.
+fn packet_level(privacy: Privacy) -> u32
+    ensures { λ r. ⌜ r ≡ packetLevel privacy ⌝ }
+{
+    match privacy {
+        Privacy::Request(level) => packet_privacy(level),
+        Privacy::Packet(level) => level,
+    }
 }
 
 // The sender of a request is known.
@@ -70,6 +81,7 @@ pub(crate) fn section_values(
     ensures { λ r. ⌜ r ≡ valuesOf properties first «correlation_id» ⌝ }
 {
     let sender = properties.sender;
+    let privacy = properties.privacy_level;
     let allocation_body_size = properties.allocation_body_size;
     SectionValues {
         security_first: first,
@@ -79,7 +91,7 @@ pub(crate) fn section_values(
         body_type: properties.body_type,
         application_tag: properties.application_tag,
         allocation_body_size,
-        privacy_level: packet_privacy(properties.privacy_level),
+        privacy_level: packet_level(privacy),
         hash_algorithm: properties.hash_algorithm,
         encryption_algorithm: properties.encryption_algorithm,
         correlation_id,

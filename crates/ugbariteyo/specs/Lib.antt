@@ -1,6 +1,7 @@
 pub mod Defaulted
 pub mod Label
 pub mod Output
+pub mod Properties
 pub mod Queue
 pub mod Record
 pub mod Refusals

@@ -5,6 +5,7 @@ pub mod defaulted;
 pub mod field;
 pub mod label;
 pub mod output;
+pub mod properties;
 pub mod queue;
 pub mod record;
 pub mod request;

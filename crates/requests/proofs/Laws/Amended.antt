@@ -1,11 +1,14 @@
--- C-21 beside 01: behind 20 to 24 its step gives the answer where it fails, and where it passes 01's steps go on.
+-- C-18 and C-21 beside 01: no step looks at the times; behind 20 to 24 its step gives the answer where it fails, and where it passes 01's steps go on.
 use Prim.Native.Nat.{ℕ}
-use mathlib.Core.Path.{_≡_, ap}
+use mathlib.Core.Path.{_≡_, refl, ap}
 use mathlib.Core.Bool.{Bool, true, cond}
 use mathlib.Core.List.{List, [], _∷_, _++_}
-use Rattle.requests.specs.Amended.{StepsAmended, baseSteps}
+use Rattle.requests.specs.Amended.{StepsAmended, baseSteps, timed, withTimes}
+use Rattle.requests.specs.Defaults.{encryption, signatureOf}
 use Rattle.requests.specs.Request.{SendRequest}
-use Rattle.requests.specs.Steps.{firstFailure, from25, refused, requestSteps, retiredRequest, steps, upTo24}
+use Rattle.requests.specs.Section.{propertiesAt, propertiesFieldsOf, providerInfo, sectionLength, securityFieldsOf, securityFirst}
+use Rattle.requests.specs.Steps.{algorithmMissing, allocationFails, directPrivacy, hashMissing, identityFails, outOfRange}
+use Rattle.requests.specs.Steps.{firstFailure, from25, providerFails, refused, requestSteps, retiredRequest, splitFails, steps, tooLarge, upTo24}
 
 -- behind the same steps
 behind : (ss xs ys : List (Bool × ℕ)) → firstFailure xs ≡ firstFailure ys → firstFailure (ss ++ xs) ≡ firstFailure (ss ++ ys)
@@ -17,10 +20,15 @@ behind (s ∷ ss) xs ys e = ap (cond (s .0) (refused (s .1))) (behind ss xs ys e
 abbrev from29 : SendRequest → List (Bool × ℕ)
 from29 q = (retiredRequest (q .values) (q .signature), 29) ∷ from25 q
 
+times : (q : SendRequest) (queue live : ℕ) → requestSteps (withTimes queue live q) ≡ requestSteps q
+unfolding withTimes timed requestSteps steps upTo24 from25 outOfRange directPrivacy algorithmMissing hashMissing retiredRequest identityFails providerFails splitFails tooLarge allocationFails sectionLength propertiesAt securityFirst securityFieldsOf propertiesFieldsOf providerInfo signatureOf encryption
+times q queue live = refl
+
 pub steps-amended : StepsAmended
 unfolding requestSteps steps baseSteps firstFailure
 steps-amended =
     record {
       retired = λ q e. behind (upTo24 q) (from29 q) ((true, 29) ∷ []) (rw e);
       others = λ q e. behind (upTo24 q) (from29 q) (from25 q) (rw e);
+      times = times;
     }

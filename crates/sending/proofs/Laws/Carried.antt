@@ -1,10 +1,13 @@
 -- What is read from the section of a legal request.
-use Prim.Native.Nat.{ℕ, _<_}
+use Prim.Native.Nat.{ℕ, _-_, _<_}
 use mathlib.Core.Path.{_≡_, refl, sym, ap, subst, _∙_}
-use mathlib.Core.Bool.{Bool, true, false, true≢false}
+use mathlib.Core.Bool.{Bool, true, false, cond, true≢false}
 use mathlib.Core.List.{List, [], _∷_, _++_}
-use lib.ListN.{drop}
+use native.Mathlib.Omega.{arith}
+use borrow.Author.Tests.{ne-eqb}
+use lib.ListN.{length, drop}
 use lib.Seq.{drop-at}
+use Rattle.octets.specs.declared.count.Bytes.{Bytes}
 use Rattle.octets.specs.Number.{le, toLe}
 use Rattle.octets.specs.Text.{unitBytes}
 use Rattle.octets.proofs.Laws.Number.{le-toLe, length-toLe}
@@ -12,52 +15,67 @@ use Rattle.octets.proofs.Laws.Part.{within-none}
 use Rattle.rules.specs.Properties.{propertiesParts}
 use Rattle.rules.specs.Reading.{read, securityHeader, summarize}
 use Rattle.rules.specs.Refusal.{bytes}
-use Rattle.rules.specs.Security.{DE, DP, EB, ST, securityLength}
-use Rattle.rules.specs.Summary.{labelOf, noSecurity, partOf, providerNameOf}
+use Rattle.rules.specs.Security.{DP, securityLength}
+use Rattle.rules.specs.Summary.{labelOf, noSecurity, partOf, providerNameOf, summaryOf}
 use Rattle.rules.specs.declared.properties.PropertiesFields.{PropertiesFields}
 use Rattle.rules.specs.declared.properties.PropertiesParts.{PropertiesParts}
 use Rattle.rules.specs.declared.section.Section.{Section}
 use Rattle.rules.specs.declared.section.Summary.{Summary}
+use Rattle.rules.specs.declared.security.SecurityFields.{SecurityFields}
 use Rattle.rules.specs.declared.security.SecurityHeader.{SecurityHeader}
 use Rattle.rules.proofs.Laws.Accepted.{HeaderPassed, SectionPassed, header-fits, section-fits, section-passed}
 use Rattle.writing.specs.Theorems.{ReadsBack}
 use Rattle.writing.specs.Writing.{sectionBytes}
 use Rattle.writing.proofs.Laws.Again.{accepted as read-accepted}
 use Rattle.writing.proofs.Laws.ReadBack.{section-back}
-use Rattle.requests.specs.Defaults.{properties, propertiesOf, providerType, senderOf, senderValues, signatureOf}
+use Rattle.requests.specs.Carried.{carried, requestPrivacy, sectionProperties, sectionProviderType, sectionSender}
+use Rattle.requests.specs.Defaults.{privacy, properties, propertiesOf, providerType, senderOf, senderValues, signatureOf, titleOf}
 use Rattle.requests.specs.Request.{SendRequest}
-use Rattle.requests.specs.Section.{first, labelWith, propertiesAt as startAt, propertiesFieldsOf, providerInfo, sectionLength, securityFieldsOf}
+use Rattle.requests.specs.Section.{first, labelWith, propertiesAt as startAt, propertiesFieldsOf, sectionLength, securityFieldsOf}
+use Rattle.requests.specs.Section.{provided, providerInfo}
+use Rattle.requests.specs.declared.properties.Handling.the-variants.{NotKnown as Handling·NotKnown}
 use Rattle.requests.specs.declared.properties.Properties.{Properties}
-use Rattle.requests.specs.declared.properties.ProviderType.the-variants.{Known}
+use Rattle.requests.specs.declared.properties.ProviderType.the-variants.{Known as ProviderType·Known, NotKnown as ProviderType·NotKnown}
+use Rattle.requests.specs.declared.properties.Sender.the-variants.{NotKnown}
 use Rattle.requests.specs.declared.request.Request.{Request}
+use Rattle.requests.proofs.Laws.Carried.{privacy-back, sender-back, title-back}
 use Rattle.requests.proofs.Laws.Flags.{securityFlags-bits}
 use Rattle.requests.proofs.Laws.Legal.{RequestPassed, identity-fits}
 use Rattle.requests.proofs.Laws.NoSecurity.{no-security}
-use Rattle.requests.proofs.Laws.Provider.{info-written}
-use Rattle.sending.specs.Send.{givenBy, senderOr, valuesOf}
+use Rattle.requests.proofs.Laws.Provider.{typeAndName}
+use Rattle.requests.proofs.Laws.Text.{length-info}
+use Rattle.sending.specs.Send.{givenBy, valuesOf}
 use Rattle.sending.specs.Theorems.{Carries, Typed}
 use Rattle.sending.proofs.Laws.Given.{propertiesGiven-by, request-placed, securityGiven-by, wellFormed-by}
 use Rattle.sending.proofs.Laws.Send.{Gets}
 
 -- the header that is read, by the request
 record HeaderBack (q : SendRequest) (s : List ℕ) (h : SecurityHeader) : Type 0 where
-  length : h .parts .length .0 ≡ startAt q
+  sender : sectionSender (first q) (h .fields) ≡ cond (first q) (senderOf (q .values) (q .encryptionKey)) NotKnown
+  signatureSize : h .fields .«signature_size» ≡ bytes (length (signatureOf (q .values) (q .signature)))
+  infoSize : h .fields .«provider_info_size» ≡ bytes (length (providerInfo (q .values) (q .signature) (q .providerName)))
   senderId : partOf s (h .parts .«sender_id») ≡ q .senderId
   encryptionKey : partOf s (h .parts .«encryption_key») ≡ q .encryptionKey
   signature : partOf s (h .parts .signature) ≡ signatureOf (q .values) (q .signature)
   senderCert : partOf s (h .parts .«sender_cert») ≡ q .senderCert
   provider : partOf s (h .parts .«provider_info») ≡ providerInfo (q .values) (q .signature) (q .providerName)
   providerType : first q ≡ true → h .«provider_type» ≡ le 4 (providerInfo (q .values) (q .signature) (q .providerName)) 0
+  length : h .parts .length .0 ≡ startAt q
 
 header-back : (q : SendRequest) (id s : List ℕ) (r : Section) (secured : Bool) → RequestPassed q → ReadsBack (givenBy q id) s r
     → first q ≡ secured → HeaderPassed secured s (r .summary .security) → HeaderBack q s (r .summary .security)
-unfolding givenBy valuesOf startAt securityHeader noSecurity
+unfolding givenBy valuesOf startAt securityHeader noSecurity securityFieldsOf senderOf sectionSender
 header-back q id s r true a b e p =
     let h = r .summary .security in
     let fields : h .fields ≡ securityFieldsOf q = b .security e ∙ securityGiven-by q id a in
     let start : securityLength (securityFieldsOf q) ≡ startAt q = rw e in
+    let values = senderValues (q .values) (q .encryptionKey) in
+    let sender = sender-back values (securityFieldsOf q) (securityFlags-bits values (identity-fits q a .kind)) in
     record {
       length = header-fits p .size ∙ ap securityLength fields ∙ start;
+      sender = rw e (ap (sectionSender true) fields ∙ sender);
+      signatureSize = ap (λ (f : SecurityFields). f .«signature_size») fields;
+      infoSize = ap (λ (f : SecurityFields). f .«provider_info_size») fields;
       senderId = b .senderId e;
       encryptionKey = b .encryptionKey e;
       signature = b .signature e;
@@ -71,6 +89,9 @@ header-back q id s r false a b e p =
     let none = no-security q a e in
     let plain : HeaderBack q s noSecurity = record {
       length = rw e;
+      sender = rw e;
+      signatureSize = ap (λ (xs : List ℕ). bytes (length xs)) (sym (none .signature));
+      infoSize = ap (λ (xs : List ℕ). bytes (length xs)) (sym (none .providerInfo));
       senderId = within-none s 0 ∙ sym (none .senderId);
       encryptionKey = within-none s 0 ∙ sym (none .encryptionKey);
       signature = within-none s 0 ∙ sym (none .signature);
@@ -89,24 +110,42 @@ length-back q s m fields start p =
     let layout = section-fits (p .properties) .layout in
     ap (λ (x : PropertiesParts). x .«section_length») layout ∙ rw (start, fields)
 
--- type and name in provider info that is not empty
-type-back : (v : Request) (s name : List ℕ) → providerType v < 4294967296 → ¬ (providerInfo v s name ≡ [])
+-- type and name in provider info that is written
+type-back : (v : Request) (s name : List ℕ) → providerType v < 4294967296 → provided v s ≡ true
     → le 4 (providerInfo v s name) 0 ≡ providerType v
-unfolding le toLe
-type-back v s name small some = rw (info-written v s name some) (le-toLe 4 (providerType v) small)
+unfolding providerInfo le toLe
+type-back v s name small some = rw some (le-toLe 4 (providerType v) small)
 
-name-back : (v : Request) (s name : List ℕ) → ¬ (providerInfo v s name ≡ [])
-    → drop 4 (providerInfo v s name) ≡ unitBytes (name ++ (0 ∷ []))
+name-back : (v : Request) (s name : List ℕ) → provided v s ≡ true → drop 4 (providerInfo v s name) ≡ unitBytes (name ++ (0 ∷ []))
+unfolding providerInfo
 name-back v s name some =
-    rw (info-written v s name some) (drop-at (toLe 4 (providerType v)) (unitBytes (name ++ (0 ∷ []))) 4 (length-toLe 4 (providerType v)))
+    rw some (drop-at (toLe 4 (providerType v)) (unitBytes (name ++ (0 ∷ []))) 4 (length-toLe 4 (providerType v)))
 
--- where provider info is not empty, a SecurityHeader stands first
-first-signed : (q : SendRequest) → RequestPassed q → ¬ (providerInfo (q .values) (q .signature) (q .providerName) ≡ []) → first q ≡ true
+-- which is so only where a SecurityHeader stands first
+first-signed : (q : SendRequest) → RequestPassed q → provided (q .values) (q .signature) ≡ true → first q ≡ true
+unfolding providerInfo
 first-signed q a some = go (first q) refl
   where
     go : (secured : Bool) → first q ≡ secured → secured ≡ true
     go true e = refl
-    go false e = absurd (some (no-security q a e .providerInfo))
+    go false e =
+        let info = length-info (providerType (q .values)) (q .providerName) in
+        let none = subst (λ (b : Bool). cond b (typeAndName (q .values) (q .providerName)) [] ≡ []) some (no-security q a e .providerInfo) in
+        absurd (omega (arith, info, ap length none))
+
+provider-back : (q : SendRequest) (s : List ℕ) (h : SecurityHeader) (b : Bool) → provided (q .values) (q .signature) ≡ b
+    → providerType (q .values) < 4294967296 → RequestPassed q → HeaderBack q s h
+    → sectionProviderType (h .fields .«provider_info_size») (h .«provider_type»)
+    ≡ cond b (ProviderType·Known (providerType (q .values))) ProviderType·NotKnown
+unfolding sectionProviderType providerInfo
+provider-back q s h true e small a header =
+    let v = q .values in
+    let info = length-info (providerType v) (q .providerName) in
+    let size = ap (λ (n : Bytes). n .0) (header .infoSize)
+    ∙ ap (λ (b : Bool). length (cond b (typeAndName v (q .providerName)) [])) e in
+    let type = header .providerType (first-signed q a e) ∙ type-back v (q .signature) (q .providerName) small e in
+    rw (ne-eqb (h .fields .«provider_info_size» .0) 0 (λ none. absurd (omega (arith, info, size, none)))) (ap ProviderType·Known type)
+provider-back q s h false e small a header = rw (header .infoSize, e)
 
 -- the fields that are read, by the request
 pub record FieldsBack (q : SendRequest) (id s : List ℕ) (r : Section) : Type 0 where
@@ -132,36 +171,50 @@ fields-back q id rest t a =
       },
     )
 
+-- the properties of the section that is read, by those of the request
+properties-back : (q : SendRequest) (id s : List ℕ) (r : Section) → Typed q id → RequestPassed q → FieldsBack q id s r
+    → HeaderBack q s (r .summary .security)
+    → sectionProperties r ≡ carried (first q) (provided (q .values) (q .signature)) (properties q)
+unfolding sectionProperties carried propertiesOf propertiesFieldsOf summaryOf givenBy valuesOf
+properties-back q id s r t a b header =
+    let f = b .properties in
+    let secured = ap (λ (m : Summary). m .«security_first») (b .passed .properties .summary) in
+    λ i.
+    record {
+      handling = Handling·NotKnown;
+      sender = (ap (λ (x : Bool). sectionSender x (r .summary .security .fields)) secured ∙ header .sender) i;
+      «provider_type» = provider-back q s (r .summary .security) (provided (q .values) (q .signature)) refl (t .providerType) a header i;
+      «message_class» = f i .«message_class»;
+      acknowledge = f i .flags;
+      «application_tag» = b .written .tag i;
+      «privacy_level» = (ap (λ (x : PropertiesFields). requestPrivacy (x .«privacy_level»)) f ∙ privacy-back (privacy (q .values)) (a .privacy)) i;
+      «hash_algorithm» = f i .«hash_algorithm»;
+      «encryption_algorithm» = f i .«encryption_algorithm»;
+      «body_type» = f i .«body_type»;
+      «message_size» = f i .«message_size»;
+      «allocation_body_size» = f i .«allocation_body_size»;
+      title = record { 0 = (ap (λ (x : PropertiesFields). x .«label_length» .0 - 1) f ∙ title-back (titleOf (q .title))) i };
+      signature = header .signatureSize i;
+    }
+
 -- of the properties as they are made
-carried : (q : SendRequest) (id rest : List ℕ) → Typed q id → Gets q (properties q)
+made-back : (q : SendRequest) (id rest : List ℕ) → Typed q id → Gets q (properties q)
     → (r : Section) × Carries q (properties q) id (sectionBytes (givenBy q id) ++ rest) r
-unfolding givenBy valuesOf senderOr senderOf propertiesOf labelOf providerNameOf propertiesFieldsOf securityFieldsOf
-carried q id rest t g =
+unfolding givenBy valuesOf propertiesOf labelOf providerNameOf securityFieldsOf
+made-back q id rest t g =
     let a = g .legal in
     let back = fields-back q id rest t a in
     let s = sectionBytes (givenBy q id) ++ rest in
     let r = back .0 in
     let b = back .1 .written in
-    let p = back .1 .passed in
-    let fields = back .1 .properties in
-    let security = back .1 .security in
-    let header = header-back q id s r (first q) a b refl (p .security) in
-    let bits = securityFlags-bits (senderValues (q .values) (q .encryptionKey)) (identity-fits q a .kind) in
-    let type = type-back (q .values) (q .signature) (q .providerName) (t .providerType) in (
+    let header = header-back q id s r (first q) a b refl (back .1 .passed .security) in
+    let bits = securityFlags-bits (senderValues (q .values) (q .encryptionKey)) (identity-fits q a .kind) in (
       r,
       record {
         reads = b .reads;
-        length = length-back q s (r .summary) fields (header .length) p;
-        class = ap (λ (f : PropertiesFields). f .«message_class») fields;
-        acknowledge = ap (λ (f : PropertiesFields). f .flags) fields;
+        length = length-back q s (r .summary) (back .1 .properties) (header .length) (back .1 .passed);
+        properties = properties-back q id s r t a (back .1) header;
         correlation = b .correlation;
-        tag = b .tag;
-        privacy = ap (λ (f : PropertiesFields). f .«privacy_level») fields;
-        hash = ap (λ (f : PropertiesFields). f .«hash_algorithm») fields;
-        encryptionAlgorithm = ap (λ (f : PropertiesFields). f .«encryption_algorithm») fields;
-        bodyType = ap (λ (f : PropertiesFields). f .«body_type») fields;
-        messageSize = ap (λ (f : PropertiesFields). f .«message_size») fields;
-        allocation = ap (λ (f : PropertiesFields). f .«allocation_body_size») fields;
         title = b .label ∙ ap labelWith (sym (g .title));
         extension = b .extension;
         body = b .body ∙ sym (g .body);
@@ -169,12 +222,8 @@ carried q id rest t g =
         encryptionKey = header .encryptionKey;
         signature = header .signature ∙ sym (g .signature);
         senderCert = header .senderCert;
-        dataPresent = λ e. ap DP (security e) ∙ bits .DP;
-        kind = λ e. ap ST (security e) ∙ bits .ST;
-        defaultProvider = λ e. ap DE (security e) ∙ bits .DE;
-        encryption = λ e. ap EB (security e) ∙ bits .EB;
+        dataPresent = λ e. ap DP (back .1 .security e) ∙ bits .DP;
         provider = header .provider;
-        providerType = λ some. ap Known (header .providerType (first-signed q a some) ∙ type some);
         providerName = λ some. ap (drop 4) (header .provider) ∙ name-back (q .values) (q .signature) (q .providerName) some;
       },
     )
@@ -183,5 +232,5 @@ carried q id rest t g =
 pub read-back : (q : SendRequest) (p : Properties) (id rest : List ℕ) → Typed q id → Gets q p
     → (r : Section) × Carries q p id (sectionBytes (givenBy q id) ++ rest) r
 read-back q p id rest t g =
-    let c = carried q id rest t (subst (Gets q) (g .made) g) in
+    let c = made-back q id rest t (subst (Gets q) (g .made) g) in
     (c .0, subst (λ (x : Properties). Carries q x id (sectionBytes (givenBy q id) ++ rest) (c .0)) (sym (g .made)) (c .1))

@@ -13,7 +13,7 @@ use Rattle.writing.specs.Writing.{layoutLength, startOf, writeRefusal}
 use Rattle.writing.proofs.Laws.Placed.{HeaderPlaced, section-placed}
 use Rattle.requests.specs.Defaults.{acknowledge, class, correlationOr, privacy, propertiesOf, senderOf, senderValues, titleOf}
 use Rattle.requests.specs.Request.{SendRequest}
-use Rattle.requests.specs.Section.{first, propertiesAt, propertiesFieldsOf, sectionLength, securityFieldsOf}
+use Rattle.requests.specs.Section.{first, packetLevel, propertiesAt, propertiesFieldsOf, sectionLength, securityFieldsOf}
 use Rattle.requests.specs.Steps.{tooLarge}
 use Rattle.requests.specs.declared.request.Correlation.{Correlation}
 use Rattle.requests.specs.declared.request.Correlation.the-variants.{Absent, Given}
@@ -32,7 +32,7 @@ securityGiven-by q id a =
     rw (mod-eq-of-lt (securityFlags-bits (senderValues (q .values) (q .encryptionKey)) (identity-fits q a .kind) .small))
 
 pub propertiesGiven-by : (q : SendRequest) (id : List ℕ) → RequestPassed q → propertiesGiven (givenBy q id) ≡ propertiesFieldsOf q
-unfolding propertiesFrom givenBy valuesOf propertiesOf propertiesFieldsOf
+unfolding propertiesFrom givenBy valuesOf propertiesOf propertiesFieldsOf packetLevel
 propertiesGiven-by q id a =
     let small : acknowledge (q .values) < 16 = omega (arith, acknowledge-small q a) in
     rw (mod-eq-of-lt small)
@@ -53,7 +53,7 @@ length-correlationOr given Absent e = refl
 length-correlationOr given Given e = e
 
 pub wellFormed-by : (q : SendRequest) (id : List ℕ) → Typed q id → RequestPassed q → WellFormed (givenBy q id)
-unfolding givenBy valuesOf propertiesOf
+unfolding givenBy valuesOf propertiesOf packetLevel
 wellFormed-by q id t a =
     record {
       correlation = length-correlationOr id (q .values .correlation) (t .correlation);

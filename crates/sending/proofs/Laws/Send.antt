@@ -5,11 +5,9 @@ use mathlib.Core.Bool.{Bool}
 use mathlib.Core.List.{List}
 use native.Mathlib.Omega.{arith}
 use borrow.Author.Tests.{eq-eqb}
-use lib.ListN.{length, getD, take, drop, length-drop}
+use lib.ListN.{length, getD, take, drop}
 use lib.Seq.{length-take-le, take-at, take-length}
 use Rattle.octets.specs.Over.{over}
-use Rattle.octets.specs.Part.{within}
-use Rattle.octets.proofs.Laws.Part.{rest-drop, within-in}
 use Rattle.rules.specs.Output.{writerAnswer, writerOutput}
 use Rattle.rules.specs.declared.refusal.Checked.{Checked}
 use Rattle.rules.specs.declared.refusal.Checked.the-variants.{Passed, Refused}
@@ -25,7 +23,9 @@ use Rattle.requests.specs.declared.properties.Defaulted.the-variants.{Propertie
 use Rattle.requests.specs.declared.properties.Properties.{Properties}
 use Rattle.requests.specs.declared.request.Body.{Body}
 use Rattle.requests.specs.declared.request.Body.the-variants.{Absent, Given}
+use Rattle.requests.specs.declared.request.Request.{Request}
 use Rattle.requests.proofs.Laws.Legal.{RequestPassed, acknowledge-small, class-small, identity-fits, request-passed}
+use Rattle.requests.proofs.Laws.Signature.{length-signature}
 use Rattle.requests.proofs.Laws.Text.{label-most}
 use Rattle.requests.proofs.Laws.Title.{title-first, title-small}
 use Rattle.sending.specs.Send.{answerAfter, givenBy, sendAnswer, sendBytes, senderOr, valuesOf}
@@ -36,11 +36,12 @@ pub held : {n : ℕ} {part now : List ℕ} (array : List ℕ) → (n ≡ length 
 unfolding over
 held {n} {part} array w = ap (take n) (w .1) ∙ take-at part (drop (length part) array) n (sym (w .0))
 
--- the last bytes of a signature
-last-within : (s : List ℕ) (at : ℕ) → at ≤ length s → within s at (length (drop at s)) ≡ drop at s
-last-within s at h =
-    let n : length (drop at s) ≡ length s - at = length-drop at s in
-    within-in s at (length (drop at s)) (omega arith) ∙ rw n (rest-drop s at)
+-- the last bytes of a signature, by how many are kept
+last-kept : (v : Request) (s : List ℕ) → drop (length s - length (signatureOf v s)) s ≡ signatureOf v s
+unfolding signatureOf
+last-kept v s =
+    let start : length s - length (signatureOf v s) ≡ length s - count v (length s) = omega (arith, length-signature v s) in
+    ap (λ (n : ℕ). drop n s) start
 
 -- a body that is given is all of it, and one that is absent nothing of it
 body-first : (s : List ℕ) (b : Body) → take (length (bodyOr s b)) s ≡ bodyOr s b
@@ -63,7 +64,8 @@ pub record Gets (q : SendRequest) (p : Properties) : Type 0 where
   pub units : p .title .0 ≡ length (take (p .title .0) (q .title))
   pub small : p .title .0 ≤ 249
   pub label : length (labelWith (take (p .title .0) (q .title))) ≤ 500
-  pub signature : within (q .signature) (p .signature .start .0) (p .signature .length .0) ≡ signatureOf (q .values) (q .signature)
+  pub signature : drop (length (q .signature) - p .signature .0) (q .signature) ≡ signatureOf (q .values) (q .signature)
+  pub kept : p .signature .0 ≤ length (q .signature)
   pub body : take (p .«message_size» .0) (q .body) ≡ bodyOf (q .values) (q .body)
   pub size : p .«message_size» .0 ≡ length (take (p .«message_size» .0) (q .body))
   pub kind : senderOr (p .sender) .kind ≤ 2
@@ -71,7 +73,7 @@ pub record Gets (q : SendRequest) (p : Properties) : Type 0 where
   pub class : p .«message_class» < 65536
 
 made-gets : (q : SendRequest) → defaulted q ≡ Defaulted·Properties (properties q) → RequestPassed q → Gets q (properties q)
-unfolding propertiesOf senderOf senderOr signatureOf
+unfolding propertiesOf senderOf senderOr
 made-gets q e a =
     let given = q .values .body in
     record {
@@ -82,7 +84,8 @@ made-gets q e a =
       units = sym (ap length (title-first (q .title)));
       small = title-small (q .title);
       label = rw (title-first (q .title)) (omega (arith, label-most (titleOf (q .title)), title-small (q .title)));
-      signature = last-within (q .signature) (length (q .signature) - count (q .values) (length (q .signature))) (omega arith);
+      signature = last-kept (q .values) (q .signature);
+      kept = omega (arith, length-signature (q .values) (q .signature));
       body = body-first (q .body) given;
       size = sym (length-take-le (length (bodyOf (q .values) (q .body))) (q .body) (body-within (q .body) given));
       kind = identity-fits q a .kind;

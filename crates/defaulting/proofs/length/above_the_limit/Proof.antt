@@ -24,7 +24,7 @@ unfolding securityFieldsOf
 returns-2 c =
     let length = the tie.After-security-length (search) .security-length .ensures in
     let info = the tie.After-provider-info-size (search) .provider-info-size .ensures in
-    let kept = the tie.After-kept-bytes (search) .kept-bytes .ensures .1 in
+    let kept = the tie.After-kept-bytes (search) .kept-bytes .ensures in
     let f = the tie.After-security-first (search) .security-first in
     let secured = sym (f .ensures) ∙ not-false (f .result) (the tie.Else1 (search) .if1 .left) in
     above-alone _ _ _ length (the tie.Then2 (search) .if2 .taken) secured (same-security _ _ refl refl kept refl info)
@@ -35,7 +35,7 @@ returns-3 c =
     let small = the tie.Else2 (search) .if2 .left in
     let length = the tie.After-security-length (search) .security-length .ensures in
     let info = the tie.After-provider-info-size (search) .provider-info-size .ensures in
-    let kept = the tie.After-kept-bytes (search) .kept-bytes .ensures .1 in
+    let kept = the tie.After-kept-bytes (search) .kept-bytes .ensures in
     let body = the tie.After-body-size (search) .body-size .ensures in
     let label = the tie.After-label-units (search) .label-units .ensures in
     let f = the tie.After-security-first (search) .security-first in

@@ -14,7 +14,7 @@ returns : tie.Need-returns
 unfolding tooLarge
 returns c =
     let a = the tie.Start (search) .args in
-    let cut = the tie.After-kept-bytes (search) .kept-bytes .ensures .1 in
+    let cut = the tie.After-kept-bytes (search) .kept-bytes .ensures in
     c .part-too-large .ensures
     ∙ ap (λ (n : ℕ). partTooLarge (length (now (a .encryption-key))) n (length (now (a .sender-cert)))) cut
 

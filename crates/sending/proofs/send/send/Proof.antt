@@ -6,6 +6,7 @@ use native.Mathlib.Omega.{arith}
 use borrow.Author.Needs.{needs}
 use lib.ListN.{getD}
 use lib.Seq.{length-take-le}
+use Rattle.octets.proofs.Laws.Part.{rest-drop}
 use Rattle.octets.proofs.Laws.Steps.{the}
 use Rattle.rules.specs.Output.{writerOutput}
 use Rattle.requests.specs.Request.{SendRequest, heldRequest}
@@ -49,14 +50,14 @@ sent c = legal-sent _ _ _ _ (title-units (search)) (name-units (search)) (got c)
 returns-2 : tie.Need-returns-2
 returns-2 c =
     let written = c .before .before .write-with-info .ensures in
-    let cut = the tie.After-within (search) in
+    let cut = the tie.After-section-values (search) in
     let titled = the tie.After-write-label (search) in
     let first = the tie.After-security-first (search) in
     let known = first .before .before in
     let g = got known in
     let made =
     given-made (asked (start known)) _ _ (start known .args .correlation-id) (g .made) (first .security-first .ensures)
-    (cut .before .before .correlation-of .ensures) (cut .before .section-values .ensures) (cut .within .ensures ∙ g .signature)
+    (cut .before .correlation-of .ensures) (cut .section-values .ensures) (rest-drop (now (start known .args .signature)) _ ∙ g .signature)
     (held _ (titled .write-label .ensures) ∙ ap labelWith (g .title)) (g .body) in
     let out = now (start known .args .out) in (
       written .0 ∙ ap (λ (x : Given). writeAnswer x out) made ∙ sent known .0,
@@ -73,13 +74,16 @@ send-spec =
     (λ c. rw (← the tie.After-defaulted (search) .defaulted .ensures, c .before .r .given .1) (refl, refl))
     (λ c. search needs)
     (λ c κs. search needs)
+    (λ c. omega (arith, got (search) .kept))
     (λ c. omega (arith, got (search) .small))
     (λ c. got (search) .units)
     (λ c. search needs)
     (λ c κs. let g = got (search) in omega (arith, g .units, g .small))
     (λ c κs. search needs)
     (λ c κs. let g = got (search) in (g .kind, (g .acknowledge, g .class)))
-    (λ c κs. search needs)
+    (λ c. search needs)
+    (λ c. search needs)
+    (λ c. search needs)
     (λ c. omega (arith, label-small (search)))
     (λ c. let w = the tie.After-write-label (search) .write-label in sym (length-take-le (w .result .0) (w .last .1 .0) (omega (arith, label-small (search)))))
     (λ c. got (search) .size)

@@ -12,7 +12,7 @@ unfolding valuesOf
 returns c =
     let flags = the tie.After-security-flags (search) .security-flags .ensures in
     let sender = the tie.After-sender-values (search) .sender-values .ensures in
-    rw (flags ∙ ap securityFlags sender, c .packet-privacy .ensures)
+    rw (flags ∙ ap securityFlags sender, c .packet-level .ensures)
 
 pub section-values-spec : {M : Type 1} → statement M
 section-values-spec =

@@ -10,7 +10,8 @@ unfolding defaultedAnswer answerWith
 returns c =
     let request = the tie.After-request-of (search) .request-of .ensures in
     let answer = the tie.After-defaulted (search) .defaulted .ensures in
-    simp (← request, ← answer, c .before .before .refusal .given .1, c .no-defaulted .ensures)
+    let none = the tie.After-no-section (search) .no-section .ensures in
+    simp (← request, ← answer, the tie.After-refusal (search) .refusal .given .1, c .ugb-properties-of .ensures, none)
 
 returns-2 : tie.Need-returns-2
 unfolding defaultedAnswer answerWith
@@ -29,6 +30,7 @@ ugb-defaulted-positional-spec =
     (λ c κs. search needs)
     (λ c κs. search needs)
     (λ c. search needs)
+    (λ c κs. search needs)
     (λ c κs. search needs)
     (λ c. search needs)
     (λ c κs. search needs)

@@ -1,8 +1,8 @@
 -- All is 0.
-use Rattle.ugbariteyo.specs.Defaulted.{noHandling}
+use Rattle.ugbariteyo.specs.Properties.{noHandling}
 use borrow.Author.Needs.{needs}
-use Rattle.ugbariteyo.proofs.defaulted.no_handling.Statement.{statement}
-use Rattle.ugbariteyo.proofs.defaulted.no_handling.Tie as tie
+use Rattle.ugbariteyo.proofs.properties.no_handling.Statement.{statement}
+use Rattle.ugbariteyo.proofs.properties.no_handling.Tie as tie
 
 returns : tie.Need-returns
 unfolding noHandling

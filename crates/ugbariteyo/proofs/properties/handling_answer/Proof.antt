@@ -1,8 +1,8 @@
 -- The case picks the answer.
-use Rattle.ugbariteyo.specs.Defaulted.{handlingAnswer}
+use Rattle.ugbariteyo.specs.Properties.{handlingAnswer}
 use borrow.Author.Needs.{needs}
-use Rattle.ugbariteyo.proofs.defaulted.handling_answer.Statement.{statement}
-use Rattle.ugbariteyo.proofs.defaulted.handling_answer.Tie as tie
+use Rattle.ugbariteyo.proofs.properties.handling_answer.Statement.{statement}
+use Rattle.ugbariteyo.proofs.properties.handling_answer.Tie as tie
 
 pub handling-answer-spec : {M : Type 1} → statement M
 unfolding handlingAnswer

@@ -1,8 +1,8 @@
 -- The case picks the answer.
-use Rattle.ugbariteyo.specs.Defaulted.{senderAnswer}
+use Rattle.ugbariteyo.specs.Properties.{senderAnswer}
 use borrow.Author.Needs.{needs}
-use Rattle.ugbariteyo.proofs.defaulted.sender_answer.Statement.{statement}
-use Rattle.ugbariteyo.proofs.defaulted.sender_answer.Tie as tie
+use Rattle.ugbariteyo.proofs.properties.sender_answer.Statement.{statement}
+use Rattle.ugbariteyo.proofs.properties.sender_answer.Tie as tie
 
 pub sender-answer-spec : {M : Type 1} → statement M
 unfolding senderAnswer

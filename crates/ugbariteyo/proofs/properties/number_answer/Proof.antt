@@ -1,8 +1,8 @@
 -- The case picks the answer.
-use Rattle.ugbariteyo.specs.Defaulted.{numberAnswer}
+use Rattle.ugbariteyo.specs.Properties.{numberAnswer}
 use borrow.Author.Needs.{needs}
-use Rattle.ugbariteyo.proofs.defaulted.number_answer.Statement.{statement}
-use Rattle.ugbariteyo.proofs.defaulted.number_answer.Tie as tie
+use Rattle.ugbariteyo.proofs.properties.number_answer.Statement.{statement}
+use Rattle.ugbariteyo.proofs.properties.number_answer.Tie as tie
 
 pub number-answer-spec : {M : Type 1} → statement M
 unfolding numberAnswer

@@ -1,8 +1,8 @@
 -- The case picks the answer.
-use Rattle.ugbariteyo.specs.Defaulted.{providerTypeAnswer}
+use Rattle.ugbariteyo.specs.Properties.{providerTypeAnswer}
 use borrow.Author.Needs.{needs}
-use Rattle.ugbariteyo.proofs.defaulted.provider_type_answer.Statement.{statement}
-use Rattle.ugbariteyo.proofs.defaulted.provider_type_answer.Tie as tie
+use Rattle.ugbariteyo.proofs.properties.provider_type_answer.Statement.{statement}
+use Rattle.ugbariteyo.proofs.properties.provider_type_answer.Tie as tie
 
 pub provider-type-answer-spec : {M : Type 1} → statement M
 unfolding providerTypeAnswer

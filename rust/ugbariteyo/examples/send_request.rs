@@ -1,4 +1,5 @@
-//! Writes the section of a send request with a title and a body, reads it back and prints it.
+//! Writes the section of a send request with a title and a body, reads it back and prints both: what the request's
+//! properties are, and what its section carries.
 //!
 //! ```text
 //! cargo run --example send_request -- TITLE BODY
@@ -15,14 +16,17 @@ fn main() -> Result<(), Box<dyn Error>> {
         return Err("usage: send_request TITLE BODY".into());
     };
     let title: Vec<u16> = title.encode_utf16().collect();
-    let request = Request { title: &title, body: Some(Body::from(body.as_bytes())), ..Request::default() };
+    let body = Some(Body::from(body.as_bytes()));
+    let request = Request { title: &title, body, ..Request::new(3_600, 86_400) };
 
     let properties = defaulted(&request)?;
     if let Some(handling) = properties.handling {
         println!("priority        {}", handling.priority);
         println!("delivery        {}", handling.delivery);
+        println!("time to queue   {} seconds", handling.time_to_queue);
+        println!("time to live    {} seconds", handling.time_to_live);
     }
-    println!("title           {:?}", String::from_utf16_lossy(properties.title));
+    println!("title           {:?}", properties.title);
 
     let (bytes, first) = send_vec(&request)?;
     let section = read(&bytes, first)?;
@@ -30,5 +34,6 @@ fn main() -> Result<(), Box<dyn Error>> {
     println!("class           {:#06x}", section.message_class());
     println!("label           {} units, {:?}", section.label_length().0, section.label_text());
     println!("body            {:?}", String::from_utf8_lossy(section.body()));
+    println!("both times      {}", if section.properties().handling.is_none() { "not known" } else { "known" });
     Ok(())
 }

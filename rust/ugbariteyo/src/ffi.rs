@@ -60,6 +60,7 @@ impl<T> Lent<T> for &[T] {
 }
 
 mod field;
+mod properties;
 mod queue;
 mod record;
 mod request;
@@ -67,9 +68,10 @@ mod section;
 mod write;
 
 pub(crate) use field::{refused_field, Field};
+pub(crate) use properties::{properties_of, Handling, Privacy, Properties, Sender};
 pub(crate) use queue::{read_image, write_image, QueueFormat};
 pub(crate) use record::{next_record, Record};
-pub(crate) use request::{defaulted, send, Defaulted};
+pub(crate) use request::{defaulted, send};
 pub(crate) use section::{
     is_support_copy, label_shown, read, same_summary, support_copy, PropertiesFields, PropertiesParts,
     Reading, SecurityHeader, Summary,

@@ -40,7 +40,7 @@ impl From<ffi::Part> for Part {
     }
 }
 
-// The three functions below are the only ones of the crate that can panic, and they cannot: they are called with an
+// The four functions below are the only ones of the crate that can panic, and they cannot: they are called with an
 // accepted answer and what the library was lent for it, and it is proved to answer with parts that lie in what was lent
 // and have their type's length.
 
@@ -56,8 +56,15 @@ pub(crate) fn found(part: ffi::Part, input: &[u8]) -> &[u8] {
     present(Part::from(part).of(input))
 }
 
-/// The units of a text that are kept.
+/// The first units of a text, so many as are kept.
 #[inline]
-pub(crate) fn kept(units: u32, text: &[u16]) -> &[u16] {
+pub(crate) fn kept<T>(units: u32, text: &[T]) -> &[T] {
     text.get(..units as usize).expect("no more is kept than was given")
+}
+
+/// The last of these bytes, so many as are kept.
+#[inline]
+pub(crate) fn last(length: usize, bytes: &[u8]) -> &[u8] {
+    let start = bytes.len().checked_sub(length);
+    start.and_then(|start| bytes.get(start..)).expect("no more is kept than was given")
 }

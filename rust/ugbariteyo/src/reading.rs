@@ -6,10 +6,11 @@ use std::hash::{Hash, Hasher};
 use crate::ffi;
 use crate::flags::{PropertiesFlags, SecurityFlags};
 use crate::part::{found, present, Part};
+use crate::properties::Properties;
 use crate::refusal::Refusal;
 use crate::section::First;
 use crate::summary::Summary;
-use crate::text::{Text, Units};
+use crate::text::{Text, Title, Units};
 
 /// The full reading of a section: its summary, and a view of each private value and part.
 ///
@@ -45,7 +46,7 @@ impl<'a> Reading<'a> {
     }
 
     #[inline]
-    fn properties(&self) -> &ffi::PropertiesFields {
+    fn fields(&self) -> &ffi::PropertiesFields {
         &self.answer.section.summary.properties
     }
 
@@ -58,6 +59,35 @@ impl<'a> Reading<'a> {
     #[inline]
     pub fn summary(&self) -> Summary<'a> {
         Summary::new(&self.answer.section.summary, self.input)
+    }
+
+    /// The properties of the message, as far as its section carries them: both times and what else
+    /// [`Handling`](crate::Handling) has are not known.
+    ///
+    /// ```
+    /// use ugbariteyo::{defaulted, read, send_vec, Request};
+    ///
+    /// let provider_name = [b'p'.into()];
+    /// let request = Request {
+    ///     signature: b"signed",
+    ///     hash_algorithm: Some(0x800C),
+    ///     provider_name: &provider_name,
+    ///     ..Request::new(60, 3_600)
+    /// };
+    /// let (section, first) = send_vec(&request)?;
+    /// let mut carried = defaulted(&request)?;
+    /// assert_eq!(carried.handling.map(|handling| handling.time_to_live), Some(3_600));
+    /// carried.handling = None;
+    /// assert_eq!(read(&section, first)?.properties(), carried);
+    /// # Ok::<(), ugbariteyo::Refusal>(())
+    /// ```
+    ///
+    /// Of a section without a SecurityHeader [`sender`](Properties::sender) is not known either, and of one without
+    /// provider info [`provider_type`](Properties::provider_type).
+    #[inline]
+    pub fn properties(&self) -> Properties<'a> {
+        let found = ffi::properties_of(self.answer.section);
+        Properties::new(&found, *self.correlation_id(), Title::of_label(self.label()), self.signature())
     }
 
     /// Which header stands first, as the caller said.
@@ -172,19 +202,19 @@ impl<'a> Reading<'a> {
     /// The properties' Flags.
     #[inline]
     pub fn flags(&self) -> PropertiesFlags {
-        PropertiesFlags(self.properties().flags)
+        PropertiesFlags(self.fields().flags)
     }
 
     /// LabelLength, null included.
     #[inline]
     pub fn label_length(&self) -> Units {
-        Units(self.properties().label_length)
+        Units(self.fields().label_length)
     }
 
     /// MessageClass.
     #[inline]
     pub fn message_class(&self) -> u16 {
-        self.properties().message_class
+        self.fields().message_class
     }
 
     /// CorrelationID.
@@ -196,7 +226,7 @@ impl<'a> Reading<'a> {
     /// BodyType.
     #[inline]
     pub fn body_type(&self) -> u32 {
-        self.properties().body_type
+        self.fields().body_type
     }
 
     /// ApplicationTag.
@@ -208,37 +238,37 @@ impl<'a> Reading<'a> {
     /// MessageSize, in bytes: the length of the body.
     #[inline]
     pub fn message_size(&self) -> usize {
-        self.properties().message_size
+        self.fields().message_size
     }
 
     /// AllocationBodySize, in bytes.
     #[inline]
     pub fn allocation_body_size(&self) -> usize {
-        self.properties().allocation_body_size
+        self.fields().allocation_body_size
     }
 
     /// PrivacyLevel.
     #[inline]
     pub fn privacy_level(&self) -> u32 {
-        self.properties().privacy_level
+        self.fields().privacy_level
     }
 
     /// HashAlgorithm.
     #[inline]
     pub fn hash_algorithm(&self) -> u32 {
-        self.properties().hash_algorithm
+        self.fields().hash_algorithm
     }
 
     /// EncryptionAlgorithm.
     #[inline]
     pub fn encryption_algorithm(&self) -> u32 {
-        self.properties().encryption_algorithm
+        self.fields().encryption_algorithm
     }
 
     /// ExtensionSize, in bytes: the length of the extension.
     #[inline]
     pub fn extension_size(&self) -> usize {
-        self.properties().extension_size
+        self.fields().extension_size
     }
 
     /// The label's bytes, null included; nothing where LabelLength is 0.

@@ -2,16 +2,18 @@
 
 use std::fmt;
 
-use crate::part::{found, kept};
+use crate::properties::Properties;
 use crate::refusal::Refusal;
 use crate::section::{First, LIMIT};
+use crate::text::Title;
 use crate::{ffi, ffi::accepted};
 
-/// A send request. A number that is `None` and a part that is empty are absent.
+/// A send request. A number that is `None` and a part that is empty are absent; both times are always given, so a
+/// request begins with [`Request::new`].
 ///
 /// Its `Debug` shows no private part.
 // The numbers that may be absent stand first and lie as in C, so that a call takes them as they are.
-#[derive(Clone, Copy, PartialEq, Eq, Hash, Default)]
+#[derive(Clone, Copy, PartialEq, Eq, Hash)]
 #[repr(C)]
 pub struct Request<'a> {
     /// Priority, 0 to 7.
@@ -45,6 +47,11 @@ pub struct Request<'a> {
     pub split_number: Option<u32>,
     /// ulProvNameLen, which only the split number is held against.
     pub provider_name_length: u32,
+    /// ulAbsoluteTimeToQueue: within so many seconds the message has to reach its queue. 0 becomes 0xFFFFFFFF.
+    pub time_to_queue: u32,
+    /// ulRelativeTimeToLive: within so many seconds the message has to be received. Every number is passed on as
+    /// given, 0 too.
+    pub time_to_live: u32,
     /// CorrelationID.
     pub correlation_id: Option<[u8; 20]>,
     /// Whether the message belongs to a transaction.
@@ -74,6 +81,51 @@ pub struct Request<'a> {
 }
 
 impl Request<'_> {
+    /// A request with these times, in seconds, and everything else absent.
+    ///
+    /// ```
+    /// use ugbariteyo::{defaulted, Request};
+    ///
+    /// let request = Request { priority: Some(5), ..Request::new(0, 3_600) };
+    /// let handling = defaulted(&request)?.handling.unwrap();
+    /// assert_eq!((handling.time_to_queue, handling.time_to_live), (0xFFFF_FFFF, 3_600));
+    /// # Ok::<(), ugbariteyo::Refusal>(())
+    /// ```
+    pub const fn new(time_to_queue: u32, time_to_live: u32) -> Self {
+        Self {
+            priority: None,
+            trace: None,
+            delivery: None,
+            auditing: None,
+            message_class: None,
+            acknowledge: None,
+            application_tag: None,
+            privacy_level: None,
+            hash_algorithm: None,
+            encryption_algorithm: None,
+            body_type: None,
+            sender_kind: None,
+            provider_type: None,
+            split_number: None,
+            provider_name_length: 0,
+            time_to_queue,
+            time_to_live,
+            correlation_id: None,
+            transaction: false,
+            direct_queue: false,
+            default_provider: false,
+            encryption: false,
+            title: &[],
+            sender_id: &[],
+            encryption_key: &[],
+            signature: &[],
+            sender_cert: &[],
+            provider_name: &[],
+            extension: &[],
+            body: None,
+        }
+    }
+
     /// So many bytes are room enough for the section.
     fn room(&self) -> usize {
         let body = self.body.unwrap_or_default().bytes;
@@ -124,137 +176,12 @@ impl fmt::Debug for Request<'_> {
             .field("provider_type", &self.provider_type)
             .field("split_number", &self.split_number)
             .field("provider_name_length", &self.provider_name_length)
+            .field("time_to_queue", &self.time_to_queue)
+            .field("time_to_live", &self.time_to_live)
             .field("transaction", &self.transaction)
             .field("direct_queue", &self.direct_queue)
             .field("default_provider", &self.default_provider)
             .field("encryption", &self.encryption)
-            .finish_non_exhaustive()
-    }
-}
-
-/// What no section carries.
-#[derive(Debug, Clone, Copy, PartialEq, Eq, Hash)]
-#[non_exhaustive]
-pub struct Handling {
-    /// Priority.
-    pub priority: u32,
-    /// Trace.
-    pub trace: u32,
-    /// Delivery, 1 in a transaction.
-    pub delivery: u32,
-    /// Auditing.
-    pub auditing: u32,
-    /// Whether the message belongs to a transaction.
-    pub transaction: bool,
-    /// Whether the queue was opened by a direct format name.
-    pub direct_queue: bool,
-    /// The split number.
-    pub split_number: Option<u32>,
-    /// ulProvNameLen.
-    pub provider_name_length: u32,
-}
-
-/// What only a SecurityHeader carries.
-#[derive(Debug, Clone, Copy, PartialEq, Eq, Hash)]
-#[non_exhaustive]
-pub struct Sender {
-    /// The sender kind.
-    pub kind: u32,
-    /// Whether the signature is by the default provider.
-    pub default_provider: bool,
-    /// Whether encryption is asked, and there is a key.
-    pub encryption: bool,
-}
-
-/// The defaulted properties of a request. Its `Debug` shows no private part.
-#[derive(Clone, Copy, PartialEq, Eq, Hash)]
-#[non_exhaustive]
-pub struct Properties<'a> {
-    /// What no section carries.
-    pub handling: Option<Handling>,
-    /// What only a SecurityHeader carries.
-    pub sender: Option<Sender>,
-    /// The provider's type, which only provider info carries.
-    pub provider_type: Option<u32>,
-    /// The class.
-    pub message_class: u32,
-    /// Acknowledge.
-    pub acknowledge: u32,
-    /// The tag.
-    pub application_tag: u32,
-    /// The request's privacy, 0 or 2.
-    pub privacy_level: u32,
-    /// The hash algorithm.
-    pub hash_algorithm: u32,
-    /// The encryption algorithm.
-    pub encryption_algorithm: u32,
-    /// The type of the body.
-    pub body_type: u32,
-    /// The body's length.
-    pub message_size: usize,
-    /// How many bytes to allocate for the body.
-    pub allocation_body_size: usize,
-    /// CorrelationID.
-    pub correlation_id: [u8; 20],
-    /// The title as cut, without its null.
-    pub title: &'a [u16],
-    /// The signature as cut.
-    pub signature: &'a [u8],
-}
-
-impl<'a> Properties<'a> {
-    #[inline]
-    fn new(answer: &ffi::Defaulted, request: &Request<'a>) -> Self {
-        let properties = &answer.properties;
-        let (handling, sender) = (&properties.handling, &properties.sender);
-        Self {
-            handling: handling.known.then(|| Handling {
-                priority: handling.priority,
-                trace: handling.trace,
-                delivery: handling.delivery,
-                auditing: handling.auditing,
-                transaction: handling.transaction,
-                direct_queue: handling.direct_queue,
-                split_number: handling.split_number.into(),
-                provider_name_length: handling.provider_name_length,
-            }),
-            sender: sender.known.then_some(Sender {
-                kind: sender.kind,
-                default_provider: sender.default_provider,
-                encryption: sender.encryption,
-            }),
-            provider_type: properties.provider_type.into(),
-            message_class: properties.message_class,
-            acknowledge: properties.acknowledge,
-            application_tag: properties.application_tag,
-            privacy_level: properties.privacy_level,
-            hash_algorithm: properties.hash_algorithm,
-            encryption_algorithm: properties.encryption_algorithm,
-            body_type: properties.body_type,
-            message_size: properties.message_size,
-            allocation_body_size: properties.allocation_body_size,
-            correlation_id: answer.correlation_id,
-            title: kept(properties.title, request.title),
-            signature: found(properties.signature, request.signature),
-        }
-    }
-}
-
-impl fmt::Debug for Properties<'_> {
-    fn fmt(&self, f: &mut fmt::Formatter<'_>) -> fmt::Result {
-        f.debug_struct("Properties")
-            .field("handling", &self.handling)
-            .field("sender", &self.sender)
-            .field("provider_type", &self.provider_type)
-            .field("message_class", &self.message_class)
-            .field("acknowledge", &self.acknowledge)
-            .field("privacy_level", &self.privacy_level)
-            .field("hash_algorithm", &self.hash_algorithm)
-            .field("encryption_algorithm", &self.encryption_algorithm)
-            .field("body_type", &self.body_type)
-            .field("message_size", &self.message_size)
-            .field("allocation_body_size", &self.allocation_body_size)
-            .field("title", &String::from_utf16_lossy(self.title))
             .finish_non_exhaustive()
     }
 }
@@ -268,11 +195,11 @@ impl fmt::Debug for Properties<'_> {
 /// ```
 /// use ugbariteyo::{defaulted, Kind, Request};
 ///
-/// let properties = defaulted(&Request { acknowledge: Some(5), ..Request::default() })?;
+/// let properties = defaulted(&Request { acknowledge: Some(5), ..Request::new(60, 3_600) })?;
 /// assert_eq!(properties.handling.map(|handling| handling.priority), Some(3));
 /// assert_eq!(properties.acknowledge, 5);
 ///
-/// let md5 = Request { signature: b"signed", hash_algorithm: Some(0x8003), ..Request::default() };
+/// let md5 = Request { signature: b"signed", hash_algorithm: Some(0x8003), ..Request::new(60, 3_600) };
 /// assert_eq!(defaulted(&md5).unwrap_err().kind(), Some(Kind::Retired));
 /// # Ok::<(), ugbariteyo::Refusal>(())
 /// ```
@@ -280,7 +207,8 @@ impl fmt::Debug for Properties<'_> {
 pub fn defaulted<'a>(request: &Request<'a>) -> Result<Properties<'a>, Refusal> {
     let answer = ffi::defaulted(request);
     accepted(answer.refusal)?;
-    Ok(Properties::new(&answer, request))
+    let title = Title::of_units(request.title);
+    Ok(Properties::new(&answer.properties, answer.correlation_id, title, request.signature))
 }
 
 /// A section that was sent.
@@ -316,7 +244,8 @@ pub fn send(request: &Request<'_>, out: &mut [u8]) -> Result<Sent, Refusal> {
 ///
 /// let title: Vec<u16> = "Rope 7".encode_utf16().collect();
 /// let body = Body::from(&b"second"[..]);
-/// let (section, first) = send_vec(&Request { title: &title, body: Some(body), ..Request::default() })?;
+/// let request = Request { title: &title, body: Some(body), ..Request::new(60, 3_600) };
+/// let (section, first) = send_vec(&request)?;
 /// assert_eq!(read(&section, first)?.label_text().to_string(), "Rope 7");
 /// # Ok::<(), ugbariteyo::Refusal>(())
 /// ```

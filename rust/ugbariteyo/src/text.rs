@@ -1,6 +1,10 @@
-//! Text of 16-bit units, as it lies in sections and images: little-endian, its null included.
+//! Text of 16-bit units, as it lies in sections and images: little-endian, its null included. And titles, which have no
+//! null.
 
 use std::fmt::{self, Write};
+use std::hash::{Hash, Hasher};
+
+use crate::part::kept;
 
 /// A count of 16-bit units. Lengths of slices count bytes.
 #[derive(Debug, Clone, Copy, PartialEq, Eq, PartialOrd, Ord, Hash, Default)]
@@ -42,8 +46,7 @@ impl<'a> Text<'a> {
 
 impl fmt::Display for Text<'_> {
     fn fmt(&self, f: &mut fmt::Formatter<'_>) -> fmt::Result {
-        char::decode_utf16(self.units())
-            .try_for_each(|c| f.write_char(c.unwrap_or(char::REPLACEMENT_CHARACTER)))
+        show(self.units(), f)
     }
 }
 
@@ -51,6 +54,95 @@ impl fmt::Debug for Text<'_> {
     fn fmt(&self, f: &mut fmt::Formatter<'_>) -> fmt::Result {
         fmt::Debug::fmt(&self.to_string(), f)
     }
+}
+
+/// The title of a message: 16-bit units without a null, lent with a request or lying in a label. It is displayed as a
+/// [`Text`] is.
+#[derive(Clone, Copy)]
+pub struct Title<'a>(Source<'a>);
+
+/// Where the units of a title are.
+#[derive(Clone, Copy)]
+enum Source<'a> {
+    Request(&'a [u16]),
+    /// Little-endian.
+    Label(&'a [[u8; 2]]),
+}
+
+impl<'a> Title<'a> {
+    /// All of these units.
+    #[inline]
+    pub(crate) fn of_units(units: &'a [u16]) -> Self {
+        Self(Source::Request(units))
+    }
+
+    /// All of the units in a label, its null too.
+    #[inline]
+    pub(crate) fn of_label(label: &'a [u8]) -> Self {
+        Self(Source::Label(label.as_chunks().0))
+    }
+
+    /// Its first units, so many as are kept.
+    #[inline]
+    pub(crate) fn kept(self, units: u32) -> Self {
+        Self(match self.0 {
+            Source::Request(given) => Source::Request(kept(units, given)),
+            Source::Label(label) => Source::Label(kept(units, label)),
+        })
+    }
+
+    /// The units.
+    #[inline]
+    pub fn units(self) -> impl Iterator<Item = u16> + 'a {
+        let (given, label) = match self.0 {
+            Source::Request(given) => (given, &[][..]),
+            Source::Label(label) => (&[][..], label),
+        };
+        given.iter().copied().chain(label.iter().copied().map(u16::from_le_bytes))
+    }
+
+    /// How many units it has: at most 249.
+    #[inline]
+    pub fn length(self) -> Units {
+        let length = match self.0 {
+            Source::Request(given) => given.len(),
+            Source::Label(label) => label.len(),
+        };
+        Units(length as u32)
+    }
+}
+
+/// Two titles are equal when their units are, wherever they lie.
+impl PartialEq for Title<'_> {
+    fn eq(&self, other: &Self) -> bool {
+        self.units().eq(other.units())
+    }
+}
+
+impl Eq for Title<'_> {}
+
+impl Hash for Title<'_> {
+    fn hash<H: Hasher>(&self, state: &mut H) {
+        self.length().hash(state);
+        self.units().for_each(|unit| unit.hash(state));
+    }
+}
+
+impl fmt::Display for Title<'_> {
+    fn fmt(&self, f: &mut fmt::Formatter<'_>) -> fmt::Result {
+        show(self.units(), f)
+    }
+}
+
+impl fmt::Debug for Title<'_> {
+    fn fmt(&self, f: &mut fmt::Formatter<'_>) -> fmt::Result {
+        fmt::Debug::fmt(&self.to_string(), f)
+    }
+}
+
+/// Writes units as text; what is no UTF-16 becomes U+FFFD.
+fn show(units: impl Iterator<Item = u16>, f: &mut fmt::Formatter<'_>) -> fmt::Result {
+    char::decode_utf16(units).try_for_each(|c| f.write_char(c.unwrap_or(char::REPLACEMENT_CHARACTER)))
 }
 
 /// The bytes of a text with a null added, for a label, a provider's name or a queue's string.

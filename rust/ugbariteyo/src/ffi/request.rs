@@ -3,24 +3,10 @@
 use std::mem::{offset_of, transmute, MaybeUninit};
 use std::ptr;
 
-use super::{Lent, Part, Refusal};
+use super::properties::Properties;
+use super::{Lent, Refusal};
 use crate::request::{Body, Request};
 use crate::section::First;
-
-/// A number that may be absent, in an answer.
-#[repr(C)]
-#[derive(Clone, Copy)]
-pub(crate) struct Number {
-    given: bool,
-    number: u32,
-}
-
-impl From<Number> for Option<u32> {
-    #[inline]
-    fn from(number: Number) -> Self {
-        number.given.then_some(number.number)
-    }
-}
 
 /// The first members of `ugb_request`: the numbers that may be absent.
 #[repr(C)]
@@ -31,6 +17,8 @@ struct Numbers([Option<u32>; 14]);
 #[repr(C)]
 struct Marks {
     provider_name_length: u32,
+    time_to_queue: u32,
+    time_to_live: u32,
     correlation_id: Option<[u8; 20]>,
     body_given: bool,
     allocation_body_size: usize,
@@ -38,46 +26,6 @@ struct Marks {
     direct_queue: bool,
     default_provider: bool,
     encryption: bool,
-}
-
-#[repr(C)]
-pub(crate) struct Handling {
-    pub known: bool,
-    pub priority: u32,
-    pub trace: u32,
-    pub delivery: u32,
-    pub auditing: u32,
-    pub transaction: bool,
-    pub direct_queue: bool,
-    pub split_number: Number,
-    pub provider_name_length: u32,
-}
-
-#[repr(C)]
-pub(crate) struct Sender {
-    pub known: bool,
-    pub kind: u32,
-    pub default_provider: bool,
-    pub encryption: bool,
-}
-
-#[repr(C)]
-pub(crate) struct Properties {
-    pub handling: Handling,
-    pub sender: Sender,
-    pub provider_type: Number,
-    pub message_class: u32,
-    pub acknowledge: u32,
-    pub application_tag: u32,
-    pub privacy_level: u32,
-    pub hash_algorithm: u32,
-    pub encryption_algorithm: u32,
-    pub body_type: u32,
-    pub message_size: usize,
-    pub allocation_body_size: usize,
-    /// In 16-bit units.
-    pub title: u32,
-    pub signature: Part,
 }
 
 #[repr(C)]
@@ -95,20 +43,10 @@ pub(crate) struct Sent {
 }
 
 layout! {
-    Number: 8 { given: 0, number: 4 };
     Numbers: 112 {};
-    Marks: 48 {
-        provider_name_length: 0, correlation_id: 4, body_given: 25, allocation_body_size: 32, transaction: 40,
-        direct_queue: 41, default_provider: 42, encryption: 43
-    };
-    Handling: 36 {
-        known: 0, priority: 4, trace: 8, delivery: 12, auditing: 16, transaction: 20, direct_queue: 21,
-        split_number: 24, provider_name_length: 32
-    };
-    Sender: 12 { known: 0, kind: 4, default_provider: 8, encryption: 9 };
-    Properties: 128 {
-        handling: 0, sender: 36, provider_type: 48, message_class: 56, body_type: 80, message_size: 88,
-        allocation_body_size: 96, title: 104, signature: 112
+    Marks: 56 {
+        provider_name_length: 0, time_to_queue: 4, time_to_live: 8, correlation_id: 12, body_given: 33,
+        allocation_body_size: 40, transaction: 48, direct_queue: 49, default_provider: 50, encryption: 51
     };
     Defaulted: 168 { refusal: 0, properties: 16, correlation_id: 144 };
     Sent: 32 { refusal: 0, length: 16, security_first: 24 };
@@ -165,6 +103,8 @@ impl From<&Request<'_>> for Marks {
     fn from(request: &Request<'_>) -> Self {
         Self {
             provider_name_length: request.provider_name_length,
+            time_to_queue: request.time_to_queue,
+            time_to_live: request.time_to_live,
             correlation_id: request.correlation_id,
             body_given: request.body.is_some(),
             allocation_body_size: request.body.unwrap_or_default().allocation,

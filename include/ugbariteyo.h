@@ -38,10 +38,10 @@
 extern "C" {
 #endif
 
-#define UGB_VERSION_MAJOR 1
-#define UGB_VERSION_MINOR 3
+#define UGB_VERSION_MAJOR 2
+#define UGB_VERSION_MINOR 0
 #define UGB_VERSION_PATCH 0
-#define UGB_VERSION "1.3.0"
+#define UGB_VERSION "2.0.0"
 
 /* 01: a section has at most so many bytes. */
 #define UGB_LIMIT 4194304
@@ -474,7 +474,8 @@ typedef struct ugb_number {
     uint32_t number; /* the number; not looked at where absent, and 0 in an answer */
 } ugb_number;
 
-/* The numbers and marks of a send request (002). {0} is a request that gives nothing. */
+/* The numbers and marks of a send request (002). Every request gives both times. {0} gives nothing else, and each of
+ * them as 0: its time to queue is 0xFFFFFFFF, its time to live 0 seconds. */
 typedef struct ugb_request {
     ugb_number priority;             /* priority, 0 to 7; absent: 3. Every other number that is absent counts as 0 */
     ugb_number trace;                /* trace, 0 or 1 */
@@ -491,6 +492,8 @@ typedef struct ugb_request {
     ugb_number provider_type;        /* provider type */
     ugb_number split_number;         /* pulAuthProvNameLenProp; absent: the signature is not cut */
     uint32_t provider_name_length;   /* ulProvNameLen, which is taken from the split number */
+    uint32_t time_to_queue;          /* ulAbsoluteTimeToQueue, in seconds; 0 becomes 0xFFFFFFFF */
+    uint32_t time_to_live;           /* ulRelativeTimeToLive, in seconds; passed on as given, 0 too */
     bool correlation_given;          /* whether a CorrelationID is given; else it is zero, whatever stands there */
     uint8_t correlation_id[20];      /* CorrelationID */
     bool body_given;                 /* whether a body is given; else its size and allocation are 0, whatever is lent */
@@ -515,7 +518,7 @@ typedef struct ugb_request_parts {
 
 /* What no section carries. */
 typedef struct ugb_handling {
-    bool known;                    /* whether the values below are known: of a request they are */
+    bool known;                    /* whether the values below are known: of a request they are, of a section not */
     uint32_t priority;             /* priority */
     uint32_t trace;                /* trace */
     uint32_t delivery;             /* delivery */
@@ -524,32 +527,41 @@ typedef struct ugb_handling {
     bool direct_queue;             /* the direct-queue mark */
     ugb_number split_number;       /* the split number */
     uint32_t provider_name_length; /* the name-length number */
+    uint32_t time_to_queue;        /* time to queue, in seconds: the request's, or 0xFFFFFFFF for its 0 */
+    uint32_t time_to_live;         /* time to live, in seconds: the request's */
 } ugb_handling;
 
 /* What only a SecurityHeader carries. */
 typedef struct ugb_sender {
-    bool known;            /* whether the values below are known: of a request they are */
-    uint32_t kind;         /* sender kind */
-    bool default_provider; /* default provider */
-    bool encryption;       /* encryption, asked for with a key */
+    bool known;            /* whether the values below are known: of a request, and of a section with that header */
+    uint32_t kind;         /* sender kind; of a section ST */
+    bool default_provider; /* default provider; of a section DE */
+    bool encryption;       /* encryption, asked for with a key; of a section EB */
 } ugb_sender;
 
-/* The properties of a request once each absent value has its default. */
+/* A request's privacy, or a PrivacyLevel that no request's privacy becomes. */
+typedef struct ugb_privacy {
+    bool packet;    /* whether it is such a PrivacyLevel: of a request false, of a section where it is not 0, 1 or 3 */
+    uint32_t level; /* it, as the packet holds it; else the request's 0, 1 or 2, which a packet holds as 0, 1 or 3 */
+} ugb_privacy;
+
+/* The properties of a message: of a request once each absent value has its default, or of a section that was read. Of a
+ * request all is known; what a section does not carry is not known, and 0 or false. */
 typedef struct ugb_properties {
     ugb_handling handling;         /* what no section carries */
     ugb_sender sender;             /* what only a SecurityHeader carries */
-    ugb_number provider_type;      /* what only provider info carries; of a request it is known */
+    ugb_number provider_type;      /* what only provider info carries: given of a request, and of a section with it */
     uint32_t message_class;        /* class */
-    uint32_t acknowledge;          /* acknowledge */
+    uint32_t acknowledge;          /* acknowledge; of a section Flags */
     uint32_t application_tag;      /* tag */
-    uint32_t privacy_level;        /* the request's 0 or 2 */
+    ugb_privacy privacy_level;     /* privacy */
     uint32_t hash_algorithm;       /* hash */
     uint32_t encryption_algorithm; /* encryption algorithm */
     uint32_t body_type;            /* body type */
     size_t message_size;           /* the body's bytes */
     size_t allocation_body_size;   /* the body's allocation */
-    uint32_t title;                /* how many 16-bit units of the title are kept, without the null that is added */
-    ugb_part signature;            /* which bytes of the signature are kept */
+    uint32_t title;                /* how many 16-bit units of the title are kept; of a label all but its null */
+    size_t signature;              /* how many bytes of the signature are kept, the last ones; of a section all of it */
 } ugb_properties;
 
 typedef struct ugb_defaulted_answer {
@@ -584,6 +596,11 @@ static inline ugb_defaulted_answer ugb_defaulted(const ugb_request *request, con
 {
     return ugb_defaulted_positional(*request, UGB_REQUEST_PARTS(parts));
 }
+
+/* The properties of a section that was read, the section of ugb_read's answer. Of a request's section they are those of
+ * ugb_defaulted, but for what is not known. The title is the first units of the label; label, signature and
+ * CorrelationID are had through their parts. Of a refused reading: all zero. */
+ugb_properties ugb_properties_of(ugb_section section);
 
 /* The section of a request, at the front of the output. It begins with a SecurityHeader where identity, key, signature
  * or certificate is not empty. */

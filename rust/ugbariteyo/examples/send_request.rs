@@ -1,5 +1,4 @@
-//! Writes the section of a send request with a title and a body, reads it back and prints both: what the request's
-//! properties are, and what its section carries.
+//! Writes the section of a send request with a title and a body, reads it back and prints both.
 //!
 //! ```text
 //! cargo run --example send_request -- TITLE BODY
@@ -8,7 +7,7 @@
 use std::env;
 use std::error::Error;
 
-use ugbariteyo::{defaulted, read, send_vec, Body, Request};
+use ugbariteyo::{defaulted, read, send_vec, Body, Properties, Request};
 
 fn main() -> Result<(), Box<dyn Error>> {
     let args: Vec<String> = env::args().skip(1).collect();
@@ -23,9 +22,8 @@ fn main() -> Result<(), Box<dyn Error>> {
     if let Some(handling) = properties.handling {
         println!("priority        {}", handling.priority);
         println!("delivery        {}", handling.delivery);
-        println!("time to queue   {} seconds", handling.time_to_queue);
-        println!("time to live    {} seconds", handling.time_to_live);
     }
+    print_times(&properties);
     println!("title           {:?}", properties.title);
 
     let (bytes, first) = send_vec(&request)?;
@@ -34,6 +32,17 @@ fn main() -> Result<(), Box<dyn Error>> {
     println!("class           {:#06x}", section.message_class());
     println!("label           {} units, {:?}", section.label_length().0, section.label_text());
     println!("body            {:?}", String::from_utf8_lossy(section.body()));
-    println!("both times      {}", if section.properties().handling.is_none() { "not known" } else { "known" });
+    print_times(&section.properties());
     Ok(())
+}
+
+/// Prints both times, which a section does not carry.
+fn print_times(properties: &Properties<'_>) {
+    match properties.handling {
+        Some(handling) => {
+            println!("time to queue   {} seconds", handling.time_to_queue);
+            println!("time to live    {} seconds", handling.time_to_live);
+        }
+        None => println!("both times      not known"),
+    }
 }

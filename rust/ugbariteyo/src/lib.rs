@@ -83,6 +83,25 @@
 //! assert!(is_support_copy(&input, First::PropertiesHeader, &theirs));
 //! ```
 //!
+//! # The properties of a message
+//!
+//! A request gives the time within which its message has to reach the queue, and that within which it has to be received.
+//! They are among the [`Properties`] that [`defaulted`] makes from the request. A section carries no times: the properties
+//! of one that was read have everything that it carries, and the rest is not known.
+//!
+//! ```
+//! use ugbariteyo::{defaulted, read, send_vec, Request};
+//!
+//! let request = Request { application_tag: Some(7), ..Request::new(60, 3_600) };
+//! let properties = defaulted(&request)?;
+//! assert_eq!(properties.handling.map(|handling| handling.time_to_live), Some(3_600));
+//!
+//! let (section, first) = send_vec(&request)?;
+//! let properties = read(&section, first)?.properties();
+//! assert_eq!((properties.application_tag, properties.handling), (7, None));
+//! # Ok::<(), ugbariteyo::Refusal>(())
+//! ```
+//!
 //! # The records of a day's file
 //!
 //! ```no_run

@@ -2,94 +2,81 @@
 //! values.
 
 use ugbariteyo::{
-    defaulted, read, send, send_vec, Body, First, Kind, PropertiesFlags, Refusal, Request, SecurityFlags,
-    Units, LIMIT,
+    defaulted, read, send, send_vec, Body, First, Kind, Privacy, PropertiesFlags, Refusal, Request,
+    SecurityFlags, Units, LIMIT,
 };
+
+#[path = "given/request.rs"]
+mod given_request;
+
+use given_request::{full, units, ABSENT, SID};
 
 fn refused(kind: Kind) -> Refusal {
     Refusal { number: kind as u32, place: 0 }
-}
-
-fn units(text: &str) -> Vec<u16> {
-    text.encode_utf16().collect()
-}
-
-const SID: [u8; 12] = [1, 1, 0, 0, 0, 0, 0, 5, 18, 0, 0, 0];
-
-/// A request with every value and part given.
-fn full<'a>(title: &'a [u16], name: &'a [u16]) -> Request<'a> {
-    Request {
-        priority: Some(7),
-        trace: Some(1),
-        delivery: Some(0),
-        auditing: Some(3),
-        message_class: Some(0x8009),
-        acknowledge: Some(15),
-        application_tag: Some(0xDEAD_BEEF),
-        privacy_level: Some(2),
-        hash_algorithm: Some(0x800C),
-        encryption_algorithm: Some(0x6610),
-        body_type: Some(8),
-        sender_kind: Some(1),
-        provider_type: Some(24),
-        split_number: Some(9),
-        provider_name_length: 4,
-        correlation_id: Some([7; 20]),
-        transaction: true,
-        direct_queue: false,
-        default_provider: false,
-        encryption: true,
-        title,
-        sender_id: &SID,
-        encryption_key: b"key",
-        signature: b"old signed",
-        sender_cert: b"cert.",
-        provider_name: name,
-        extension: b"ext",
-        body: Some(Body { bytes: b"body", allocation: 6 }),
-    }
 }
 
 #[test]
 fn example_11_titles() {
     for (length, label) in [(0, 0), (1, 2), (248, 249), (249, 250), (250, 250), (300, 250)] {
         let title = vec![0x61; length];
-        let (section, first) = send_vec(&Request { title: &title, ..Default::default() }).unwrap();
+        let (section, first) = send_vec(&Request { title: &title, ..ABSENT }).unwrap();
         assert_eq!(first, First::PropertiesHeader);
         assert_eq!(read(&section, first).unwrap().label_length(), Units(label));
     }
     let cut = [0x61, 0, 0x62];
-    let request = Request { title: &cut, ..Default::default() };
-    assert_eq!(defaulted(&request).unwrap().title, [0x61]);
+    let request = Request { title: &cut, ..ABSENT };
+    assert!(defaulted(&request).unwrap().title.units().eq([0x61]));
     let (section, first) = send_vec(&request).unwrap();
     assert_eq!(read(&section, first).unwrap().label_text().to_string(), "a");
-    let empty = Request { title: &cut[1..], ..Default::default() };
+    let empty = Request { title: &cut[1..], ..ABSENT };
     assert_eq!(send_vec(&empty), Ok((vec![0; 56], First::PropertiesHeader)));
 }
 
 #[test]
 fn an_absent_value_gets_its_default() {
-    let request = Request::default();
-    let properties = defaulted(&request).unwrap();
+    let properties = defaulted(&ABSENT).unwrap();
     let handling = properties.handling.unwrap();
     assert_eq!((handling.priority, handling.trace, handling.delivery, handling.auditing), (3, 0, 0, 0));
     assert_eq!((handling.transaction, handling.direct_queue, handling.split_number), (false, false, None));
+    assert_eq!((handling.time_to_queue, handling.time_to_live), (60, 3_600));
     let sender = properties.sender.unwrap();
     assert_eq!((sender.kind, sender.default_provider, sender.encryption), (0, false, false));
     assert_eq!((properties.provider_type, properties.message_class, properties.acknowledge), (Some(0), 0, 0));
-    assert_eq!((properties.application_tag, properties.privacy_level, properties.body_type), (0, 0, 0));
-    assert_eq!((properties.hash_algorithm, properties.encryption_algorithm), (0, 0));
+    assert_eq!((properties.application_tag, properties.privacy_level), (0, Privacy::Request(0)));
+    assert_eq!((properties.hash_algorithm, properties.encryption_algorithm, properties.body_type), (0, 0, 0));
     assert_eq!((properties.message_size, properties.allocation_body_size), (0, 0));
     assert_eq!(
-        (properties.correlation_id, properties.title.len(), properties.signature.len()),
-        ([0; 20], 0, 0)
+        (properties.correlation_id, properties.title.length(), properties.signature.len()),
+        ([0; 20], Units(0), 0)
     );
-    assert_eq!(send_vec(&request), Ok((vec![0; 56], First::PropertiesHeader)));
+    assert_eq!(send_vec(&ABSENT), Ok((vec![0; 56], First::PropertiesHeader)));
 
-    let transaction = Request { transaction: true, delivery: Some(0), ..Default::default() };
+    let transaction = Request { transaction: true, delivery: Some(0), ..ABSENT };
     assert_eq!(defaulted(&transaction).unwrap().handling.unwrap().delivery, 1);
-    let no_key = Request { encryption: true, ..Default::default() };
+    let no_key = Request { encryption: true, ..ABSENT };
     assert!(!defaulted(&no_key).unwrap().sender.unwrap().encryption);
+}
+
+/// Only a time to queue of 0 is not passed on as given. Whatever the times are, the section has the same bytes, and all
+/// other properties are the same.
+#[test]
+fn times_travel_with_the_properties() {
+    let (title, name) = (units("Rope 7"), units("Provider"));
+    let good = full(&title, &name);
+    let queue = [(0, u32::MAX), (1, 1), (600, 600), (u32::MAX - 1, u32::MAX - 1), (u32::MAX, u32::MAX)];
+    for (time_to_queue, kept) in queue {
+        for time_to_live in [0, 1, 600, 86_400, u32::MAX - 1, u32::MAX] {
+            let request = Request { time_to_queue, time_to_live, ..good };
+            let mut wanted = defaulted(&good).unwrap();
+            let handling = wanted.handling.as_mut().unwrap();
+            (handling.time_to_queue, handling.time_to_live) = (kept, time_to_live);
+            assert_eq!(defaulted(&request), Ok(wanted));
+            assert_eq!(send_vec(&request), send_vec(&good));
+            assert_eq!(send_vec(&Request::new(time_to_queue, time_to_live)), send_vec(&ABSENT));
+        }
+    }
+    let shown = format!("{good:?} {:?}", defaulted(&good));
+    assert_eq!(shown.matches("time_to_queue: 600, time_to_live: 86400").count(), 2, "{shown}");
 }
 
 #[test]
@@ -99,7 +86,7 @@ fn a_section_carries_the_defaulted_values() {
     let properties = defaulted(&request).unwrap();
     assert_eq!(properties.signature, b"igned");
     assert_eq!(properties.handling.unwrap().delivery, 1);
-    assert_eq!(properties.privacy_level, 2);
+    assert_eq!(properties.privacy_level, Privacy::Request(2));
 
     let (bytes, first) = send_vec(&request).unwrap();
     let section = read(&bytes, first).unwrap();
@@ -231,16 +218,16 @@ fn sent_retired(request: &Request<'_>) -> bool {
 #[test]
 fn which_header_was_sent_first() {
     let parts = [
-        Request { sender_kind: Some(1), sender_id: &SID, ..Default::default() },
-        Request { encryption_key: b"key", ..Default::default() },
+        Request { sender_kind: Some(1), sender_id: &SID, ..ABSENT },
+        Request { encryption_key: b"key", ..ABSENT },
         Request {
             signature: b"signed",
             hash_algorithm: Some(1),
             default_provider: true,
             provider_type: Some(1),
-            ..Default::default()
+            ..ABSENT
         },
-        Request { sender_cert: b"cert", ..Default::default() },
+        Request { sender_cert: b"cert", ..ABSENT },
     ];
     for request in parts {
         let (section, first) = send_vec(&request).unwrap();
@@ -248,7 +235,7 @@ fn which_header_was_sent_first() {
         assert_eq!(read(&section, first).unwrap().section_length(), section.len());
     }
     let body = Some(Body::from(&b"body"[..]));
-    let (section, first) = send_vec(&Request { extension: b"ext", body, ..Default::default() }).unwrap();
+    let (section, first) = send_vec(&Request { extension: b"ext", body, ..ABSENT }).unwrap();
     assert_eq!(first, First::PropertiesHeader);
     assert_eq!(read(&section, first).unwrap().body(), b"body");
 }
@@ -275,5 +262,5 @@ fn a_short_output_stays_as_it_stood() {
     let sent = send(&request, &mut out).unwrap();
     assert_eq!((sent.length, sent.first), (length, First::SecurityHeader));
     assert_eq!(out[length..], [0x55; 3]);
-    assert_eq!(send(&Request::default(), &mut []), Err(refused(Kind::OutputShort)));
+    assert_eq!(send(&ABSENT, &mut []), Err(refused(Kind::OutputShort)));
 }

@@ -7,7 +7,7 @@ use ugbariteyo::{read, records, send_vec, support_copy_vec, write_section_vec, B
 fn main() -> Result<(), Box<dyn Error>> {
     let title: Vec<u16> = "Rope 7".encode_utf16().collect();
     let body = Body::from(&b"second"[..]);
-    let request = Request { title: &title, sender_cert: b"cert", body: Some(body), ..Request::default() };
+    let request = Request { title: &title, sender_cert: b"cert", body: Some(body), ..Request::new(3_600, 86_400) };
     let (sent, first) = send_vec(&request)?;
 
     let section = read(&sent, first)?;

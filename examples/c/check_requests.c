@@ -1,4 +1,4 @@
-/* The same for send requests. */
+/* The same for send requests, and for the properties of a section. */
 #include "check.h"
 
 static const uint16_t title[4] = {'h', 'i', 0, 'x'};
@@ -25,6 +25,8 @@ static const ugb_request whole = {
     .provider_type = {true, 0x0B0C0D0E},
     .split_number = {true, 14},
     .provider_name_length = 11,
+    .time_to_queue = 0x11121314,
+    .time_to_live = 0x21222324,
     .correlation_given = true,
     .correlation_id = {1, 2, 3, 4, 5, 6, 7, 8, 9, 10, 11, 12, 13, 14, 15, 16, 17, 18, 19, 20},
     .body_given = true,
@@ -65,14 +67,13 @@ static void check_handling(ugb_handling handling)
     SAME(handling.split_number.given, true);
     SAME(handling.split_number.number, 14);
     SAME(handling.provider_name_length, 11);
+    SAME(handling.time_to_queue, 0x11121314);
+    SAME(handling.time_to_live, 0x21222324);
 }
 
-static void check_whole(void)
+/* What its section carries of it, with a SecurityHeader and provider info. */
+static void check_carried(ugb_properties p)
 {
-    ugb_defaulted_answer found = defaulted(whole, 1, 6, sizeof body);
-    ugb_properties p = found.properties;
-    same_refusal(found.refusal, UGB_ACCEPTED, 0);
-    check_handling(p.handling);
     SAME(p.sender.known, true);
     SAME(p.sender.kind, 1);
     SAME(p.sender.default_provider, false);
@@ -82,18 +83,44 @@ static void check_whole(void)
     SAME(p.message_class, 0x8009);
     SAME(p.acknowledge, 9);
     SAME(p.application_tag, 0x05060708);
-    SAME(p.privacy_level, 2);
+    SAME(p.privacy_level.packet, false);
+    SAME(p.privacy_level.level, 2);
     SAME(p.hash_algorithm, 0x800C);
     SAME(p.encryption_algorithm, 0x6610);
     SAME(p.body_type, 0x01020304);
     SAME(p.message_size, 10);
     SAME(p.allocation_body_size, 77);
     SAME(p.title, 2);
-    same_part(p.signature, 2, 3);
+    SAME(p.signature, 3);
+}
+
+static void check_whole(void)
+{
+    ugb_defaulted_answer found = defaulted(whole, 1, 6, sizeof body);
+    same_refusal(found.refusal, UGB_ACCEPTED, 0);
+    check_handling(found.properties.handling);
+    check_carried(found.properties);
     SAME(memcmp(found.correlation_id, correlation_id, 20), 0);
 }
 
-/* Nothing is given, behind no pointer; then marks that the whole request leaves out. */
+/* Only a time to queue of 0 is not passed on as given. */
+static void check_times(void)
+{
+    static const uint32_t times[5] = {0, 1, 600, 0xFFFFFFFE, 0xFFFFFFFF};
+    ugb_request request = whole;
+    for (size_t i = 0; i < 5; i++)
+        for (size_t j = 0; j < 5; j++) {
+            request.time_to_queue = times[i];
+            request.time_to_live = times[j];
+            ugb_defaulted_answer found = defaulted(request, 1, 6, sizeof body);
+            same_refusal(found.refusal, UGB_ACCEPTED, 0);
+            SAME(found.properties.handling.time_to_queue, i == 0 ? 0xFFFFFFFF : times[i]);
+            SAME(found.properties.handling.time_to_live, times[j]);
+            check_carried(found.properties);
+        }
+}
+
+/* Nothing is given but both times as 0, behind no pointer; then marks that the whole request leaves out. */
 static void check_absent(void)
 {
     static const uint8_t zeros[20];
@@ -104,9 +131,12 @@ static void check_absent(void)
     same_refusal(found.refusal, UGB_ACCEPTED, 0);
     SAME(p.handling.priority, 3);
     SAME(p.handling.trace | p.handling.delivery | p.handling.auditing | p.handling.split_number.given, 0);
-    SAME(p.sender.kind | p.message_class | p.acknowledge | p.application_tag | p.privacy_level | p.body_type, 0);
-    SAME(p.hash_algorithm | p.encryption_algorithm | p.provider_type.number | p.title, 0);
-    SAME(p.message_size | p.allocation_body_size, 0);
+    SAME(p.handling.time_to_queue, 0xFFFFFFFF);
+    SAME(p.handling.time_to_live, 0);
+    SAME(p.sender.kind | p.message_class | p.acknowledge | p.application_tag | p.body_type | p.title, 0);
+    SAME(p.hash_algorithm | p.encryption_algorithm | p.provider_type.number, 0);
+    PRIVACY(ZERO, p.privacy_level)
+    SAME(p.message_size | p.allocation_body_size | p.signature, 0);
     SAME(memcmp(found.correlation_id, zeros, 20), 0);
 
     request.direct_queue = true;
@@ -185,12 +215,14 @@ static void not_sent(ugb_sent found, uint32_t number)
 }
 
 /* 16 and the parts 8, 4, 4, 8, 8; 56, a label of 3 units, 9 and 10, padded. */
+enum { PROPERTIES_AT = 48, SENT_LENGTH = 132 };
+
 static void check_sent(void)
 {
     ugb_request q = whole;
     ugb_reading found;
-    was_sent(sent(whole, sizeof out), 132, true);
-    found = ugb_read(out, 132, true);
+    was_sent(sent(whole, sizeof out), SENT_LENGTH, true);
+    found = ugb_read(out, SENT_LENGTH, true);
     same_refusal(found.refusal, UGB_ACCEPTED, 0);
     SAME(found.section.summary.security.fields.flags, 0x00A1);
     SAME(found.section.summary.security.provider_type, 0x0B0C0D0E);
@@ -204,12 +236,77 @@ static void check_sent(void)
     SAME(memcmp(out + found.section.correlation_id.start, correlation_id, 20), 0);
     SAME(memcmp(out + found.section.summary.parts.body.start, body, sizeof body), 0);
 
-    not_sent(sent(whole, 131), UGB_OUTPUT_SHORT);
+    not_sent(sent(whole, SENT_LENGTH - 1), UGB_OUTPUT_SHORT);
     q.priority.number = 8;
     not_sent(sent(q, sizeof out), UGB_VALUE_OUT_OF_RANGE);
 }
 
-/* 01's example 11: the title's units, and LabelLength. */
+static ugb_properties properties_of(const uint8_t *s, size_t length, bool security_first)
+{
+    ugb_reading found = ugb_read(s, length, security_first);
+    same_refusal(found.refusal, UGB_ACCEPTED, 0);
+    return ugb_properties_of(found.section);
+}
+
+/* What a section does not carry is not known: never how a request is handled; who the sender is only with a
+ * SecurityHeader, and the provider's type, which may be 0, only with provider info. */
+static void check_known(void)
+{
+    was_sent(sent(whole, sizeof out), SENT_LENGTH, true);
+    ugb_properties p = properties_of(out, SENT_LENGTH, true);
+    HANDLING(ZERO, p.handling)
+    check_carried(p);
+    p = properties_of(out + PROPERTIES_AT, SENT_LENGTH - PROPERTIES_AT, false);
+    HANDLING(ZERO, p.handling)
+    SENDER(ZERO, p.sender)
+    NUMBER(ZERO, p.provider_type)
+    SAME(p.application_tag, 0x05060708);
+    SAME(p.title, 2);
+    SAME(p.signature, 0);
+
+    put_security(0x00C2, (const uint32_t[5]){16, 0, 5, 0, 0}, 40);
+    p = properties_of(input, 96, true);
+    SAME(p.sender.known, true);
+    SAME(p.sender.kind, 2);
+    SAME(p.sender.default_provider, true);
+    SAME(p.sender.encryption, false);
+    NUMBER(ZERO, p.provider_type)
+    SAME(p.signature, 5);
+    put_security(0x0080, (const uint32_t[5]){0, 0, 4, 0, 8}, 28);
+    put(24, 2, 'p');
+    p = properties_of(input, 84, true);
+    SAME(p.sender.known, true);
+    SAME(p.sender.kind | p.sender.default_provider | p.sender.encryption, 0);
+    SAME(p.provider_type.given, true);
+    SAME(p.provider_type.number, 0);
+
+    p = ugb_properties_of(ugb_read(input, 83, true).section);
+    PROPERTIES(ZERO, p)
+}
+
+/* PrivacyLevel, whether no request's privacy becomes it, and the level. */
+static void check_privacy(void)
+{
+    static const uint32_t examples[8][3] = {
+        {0, false, 0},
+        {1, false, 1},
+        {2, true, 2},
+        {3, false, 2},
+        {4, true, 4},
+        {5, true, 5},
+        {0x01000003, true, 0x01000003},
+        {0xFFFFFFFF, true, 0xFFFFFFFF},
+    };
+    put_properties(0, 0, 0);
+    for (size_t i = 0; i < 8; i++) {
+        put(40, 4, examples[i][0]);
+        ugb_privacy found = properties_of(input, 56, false).privacy_level;
+        SAME(found.packet, examples[i][1]);
+        SAME(found.level, examples[i][2]);
+    }
+}
+
+/* 01's example 11: the title's units, and LabelLength. A section's title has the null no more. */
 static void check_titles(void)
 {
     static const size_t examples[4][2] = {{249, 250}, {250, 250}, {248, 249}, {0, 0}};
@@ -223,6 +320,11 @@ static void check_titles(void)
         ugb_sent answer = ugb_send(&request, &given, out, sizeof out);
         was_sent(answer, answer.length, false);
         SAME(ugb_read(out, answer.length, false).section.summary.properties.label_length, examples[i][1]);
+        SAME(properties_of(out, answer.length, false).title, ugb_defaulted(&request, &given).properties.title);
+    }
+    for (uint8_t length = 0; length <= 250; length++) {
+        put_properties(0, length, 0);
+        SAME(properties_of(input, 1024, false).title, length == 0 ? 0 : length - 1);
     }
 }
 
@@ -261,9 +363,12 @@ static void check_null(void)
 int main(void)
 {
     check_whole();
+    check_times();
     check_absent();
     check_refused();
     check_sent();
+    check_known();
+    check_privacy();
     check_titles();
     check_security_first();
     check_null();

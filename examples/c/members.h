@@ -34,16 +34,18 @@
 
 #define HANDLING(X, at)                                                                                                \
     X(at.known) X(at.priority) X(at.trace) X(at.delivery) X(at.auditing) X(at.transaction) X(at.direct_queue)          \
-        NUMBER(X, at.split_number) X(at.provider_name_length)
+        NUMBER(X, at.split_number) X(at.provider_name_length) X(at.time_to_queue) X(at.time_to_live)
 
 #define SENDER(X, at) X(at.known) X(at.kind) X(at.default_provider) X(at.encryption)
+
+#define PRIVACY(X, at) X(at.packet) X(at.level)
 
 #define PROPERTIES(X, at)                                                                                              \
     HANDLING(X, at.handling)                                                                                           \
     SENDER(X, at.sender)                                                                                               \
-    NUMBER(X, at.provider_type) X(at.message_class) X(at.acknowledge) X(at.application_tag) X(at.privacy_level)        \
-        X(at.hash_algorithm) X(at.encryption_algorithm) X(at.body_type) X(at.message_size) X(at.allocation_body_size)  \
-            X(at.title) PART(X, at.signature)
+    NUMBER(X, at.provider_type) X(at.message_class) X(at.acknowledge) X(at.application_tag)                            \
+        PRIVACY(X, at.privacy_level) X(at.hash_algorithm) X(at.encryption_algorithm) X(at.body_type)                   \
+            X(at.message_size) X(at.allocation_body_size) X(at.title) X(at.signature)
 
 #define IMAGE(X, at) X(at.format.kind) X(at.format.suffix_and_flags) PART(X, at.fixed) PART(X, at.text)
 
@@ -63,7 +65,7 @@
     }
 
 WHOLE(SECTION, ugb_section, 31)
-WHOLE(PROPERTIES, ugb_properties, 24)
+WHOLE(PROPERTIES, ugb_properties, 23)
 WHOLE(IMAGE, ugb_image_read, sizeof(ugb_refusal) + 6)
 WHOLE(SENT, ugb_sent, sizeof(ugb_refusal) + 7)
 WHOLE(RECORD, ugb_record, sizeof(uint32_t) + sizeof(ugb_refusal) + 13)

@@ -1,6 +1,6 @@
-/* Sends a signed message, with a hash that is retired and with one that is not, and does with its section what receivers
- * do: reads it back, makes its support copy, checks a copy that another made, writes the section again, and lists it as a
- * record of a day's file. Prints what each call answered. */
+/* Sends a signed message, with a hash that is retired and with one that is not, and does with its section what
+ * receivers do: reads it back, takes its properties, makes its support copy, checks a copy that another made, writes
+ * the section again, and lists it as a record of a day's file. Prints what each call answered. */
 #include <stdio.h>
 #include <stdlib.h>
 #include <string.h>
@@ -18,34 +18,46 @@ static void accepted(const char *what, ugb_refusal refusal)
     exit(1);
 }
 
-static ugb_sent send_signed(uint32_t hash_algorithm)
+static const uint16_t title[] = {'R', 'e', 's', 'u', 'l', 't', 's'};
+static const uint16_t provider[] = {'S', 'i', 'g', 'n', 'e', 'r'};
+static const uint8_t signature[64] = {1, 2, 3}, body[100] = {4, 5, 6};
+static const ugb_request_parts parts = {
+    .title = {title, 7},
+    .signature = {signature, sizeof signature},
+    .provider_name = {provider, 6},
+    .body = {body, sizeof body},
+};
+
+static ugb_request request_with(uint32_t hash_algorithm)
 {
-    static const uint16_t title[] = {'R', 'e', 's', 'u', 'l', 't', 's'};
-    static const uint16_t provider[] = {'S', 'i', 'g', 'n', 'e', 'r'};
-    static const uint8_t signature[64] = {1, 2, 3}, body[100] = {4, 5, 6};
-    const ugb_request request = {
+    return (ugb_request){
         .application_tag = {true, 7},
         .hash_algorithm = {true, hash_algorithm},
         .provider_type = {true, 1},
+        .time_to_queue = 0, /* becomes 0xFFFFFFFF */
+        .time_to_live = 86400,
         .correlation_given = true,
         .correlation_id = {8, 9, 10},
         .body_given = true,
         .allocation_body_size = sizeof body,
     };
-    const ugb_request_parts parts = {
-        .title = {title, 7},
-        .signature = {signature, sizeof signature},
-        .provider_name = {provider, 6},
-        .body = {body, sizeof body},
-    };
-    return ugb_send(&request, &parts, section, sizeof section);
+}
+
+static void print_properties(const char *of, const ugb_properties *properties)
+{
+    printf("%s: tag %u, title of %u units, ", of, (unsigned)properties->application_tag, (unsigned)properties->title);
+    if (properties->handling.known)
+        printf("0x%X seconds to queue, %u to live\n", (unsigned)properties->handling.time_to_queue,
+               (unsigned)properties->handling.time_to_live);
+    else
+        printf("times not known\n");
 }
 
 static size_t write_again(const ugb_section *read)
 {
     const ugb_section_values values = ugb_values_of(read, section);
-    const ugb_section_parts parts = ugb_parts_of(read, section);
-    ugb_output written = ugb_write_section(&values, &parts, again, sizeof again);
+    const ugb_section_parts read_parts = ugb_parts_of(read, section);
+    ugb_output written = ugb_write_section(&values, &read_parts, again, sizeof again);
     accepted("write", written.refusal);
     return written.length;
 }
@@ -61,10 +73,14 @@ static ugb_record list_one(size_t length, bool security_first)
 
 int main(void)
 {
-    ugb_sent refused = send_signed(0x8003); /* MD5 */
+    const ugb_request md5 = request_with(0x8003), sha256 = request_with(0x800C);
+    ugb_sent refused = ugb_send(&md5, &parts, section, sizeof section);
     printf("with MD5: refused %u: %s\n", (unsigned)refused.refusal.number, ugb_refusal_text(refused.refusal.number));
 
-    ugb_sent sent = send_signed(0x800C); /* SHA-256 */
+    ugb_defaulted_answer defaulted = ugb_defaulted(&sha256, &parts);
+    accepted("defaulted", defaulted.refusal);
+    print_properties("request", &defaulted.properties);
+    ugb_sent sent = ugb_send(&sha256, &parts, section, sizeof section);
     accepted("send", sent.refusal);
     printf("sent: %zu bytes, with%s SecurityHeader\n", sent.length, sent.security_first ? " a" : "out a");
 
@@ -74,6 +90,8 @@ int main(void)
     printf("read: tag %u, label of %u units, signature of %zu bytes, body of %zu\n",
            (unsigned)reading.section.application_tag, (unsigned)summary->properties.label_length,
            summary->security.parts.signature.length, summary->parts.body.length);
+    ugb_properties properties = ugb_properties_of(reading.section);
+    print_properties("section", &properties);
 
     ugb_output copied = ugb_support_copy(section, sent.length, sent.security_first, copy, sizeof copy);
     accepted("copy", copied.refusal);

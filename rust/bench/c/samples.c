@@ -64,6 +64,8 @@ static const ugb_request request = {
     .hash_algorithm = {true, 0x8004},
     .sender_kind = {true, 1},
     .provider_type = {true, 1},
+    .time_to_queue = 3600,
+    .time_to_live = 86400,
     .correlation_id = {[0 ... 19] = 9},
     .body_given = true,
     .allocation_body_size = BODY,

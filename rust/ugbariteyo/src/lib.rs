@@ -85,9 +85,9 @@
 //!
 //! # The properties of a message
 //!
-//! A request gives the time within which its message has to reach the queue, and that within which it has to be received.
-//! They are among the [`Properties`] that [`defaulted`] makes from the request. A section carries no times: the properties
-//! of one that was read have everything that it carries, and the rest is not known.
+//! A request gives two times, in seconds: within the first its message has to reach the queue, within the second it has
+//! to be received. They are among the [`Properties`] that [`defaulted`] makes from the request. A section carries
+//! neither: the properties of one that was read have what it carries, and the rest is not known.
 //!
 //! ```
 //! use ugbariteyo::{defaulted, read, send_vec, Request};

@@ -241,6 +241,17 @@ static void check_sent(void)
     not_sent(sent(q, sizeof out), UGB_VALUE_OUT_OF_RANGE);
 }
 
+/* No byte of a section holds a time. */
+static void check_times_not_sent(void)
+{
+    static const uint8_t zeros[56];
+    const ugb_request request = {.time_to_queue = 0x11121314, .time_to_live = 0x21222324};
+    const ugb_request_parts none = {0};
+    pattern();
+    was_sent(ugb_send(&request, &none, out, sizeof out), sizeof zeros, false);
+    SAME(memcmp(out, zeros, sizeof zeros), 0);
+}
+
 static ugb_properties properties_of(const uint8_t *s, size_t length, bool security_first)
 {
     ugb_reading found = ugb_read(s, length, security_first);
@@ -367,6 +378,7 @@ int main(void)
     check_absent();
     check_refused();
     check_sent();
+    check_times_not_sent();
     check_known();
     check_privacy();
     check_titles();

@@ -134,7 +134,7 @@ pub fn defaulted() -> Row {
     let calls = vec![
         (
             Library,
-            taken(|| library::defaulted(&lent).map(|values| (values.title.len(), values.message_size))),
+            taken(|| library::defaulted(&lent).map(|values| (values.title.length(), values.message_size))),
         ),
         (FromC, from_c(|times| c::defaulted(&c::Nothing::LENT, &mut [], times))),
         (PlainRust, taken(|| independent::request::defaulted(&request))),

@@ -150,6 +150,8 @@ impl RequestSample {
     /// The request, borrowed.
     pub fn request(&self) -> Request<'_> {
         Request {
+            time_to_queue: 3_600,
+            time_to_live: 86_400,
             acknowledge: Some(5),
             hash_algorithm: Some(0x8004),
             sender_kind: Some(1),

@@ -525,7 +525,7 @@ typedef struct ugb_handling {
     uint32_t auditing;             /* auditing */
     bool transaction;              /* the transaction */
     bool direct_queue;             /* the direct-queue mark */
-    ugb_number split_number;       /* the split number */
+    ugb_number split_number;       /* the split number, where the request gives one */
     uint32_t provider_name_length; /* the name-length number */
     uint32_t time_to_queue;        /* time to queue, in seconds: the request's, or 0xFFFFFFFF for its 0 */
     uint32_t time_to_live;         /* time to live, in seconds: the request's */
@@ -539,7 +539,7 @@ typedef struct ugb_sender {
     bool encryption;       /* encryption, asked for with a key; of a section EB */
 } ugb_sender;
 
-/* A request's privacy, or a PrivacyLevel that no request's privacy becomes. */
+/* A request's privacy, of which only a section has the retired 1; or a PrivacyLevel that no request's privacy becomes. */
 typedef struct ugb_privacy {
     bool packet;    /* whether it is such a PrivacyLevel: of a request false, of a section where it is not 0, 1 or 3 */
     uint32_t level; /* it, as the packet holds it; else the request's 0, 1 or 2, which a packet holds as 0, 1 or 3 */

@@ -42,7 +42,7 @@ impl From<ffi::Part> for Part {
 
 // The four functions below are the only ones of the crate that can panic, and they cannot: they are called with an
 // accepted answer and what the library was lent for it, and it is proved to answer with parts that lie in what was lent
-// and have their type's length.
+// and have their type's length, and to keep no more of a title or a signature than there is.
 
 /// What was taken from parts that the library found.
 #[inline]
@@ -59,12 +59,12 @@ pub(crate) fn found(part: ffi::Part, input: &[u8]) -> &[u8] {
 /// The first units of a text, so many as are kept.
 #[inline]
 pub(crate) fn kept<T>(units: u32, text: &[T]) -> &[T] {
-    text.get(..units as usize).expect("no more is kept than was given")
+    text.get(..units as usize).expect("no more is kept than there is")
 }
 
 /// The last of these bytes, so many as are kept.
 #[inline]
 pub(crate) fn last(length: usize, bytes: &[u8]) -> &[u8] {
     let start = bytes.len().checked_sub(length);
-    start.and_then(|start| bytes.get(start..)).expect("no more is kept than was given")
+    start.and_then(|start| bytes.get(start..)).expect("no more is kept than there is")
 }

@@ -22,7 +22,7 @@ pub struct Handling {
     pub transaction: bool,
     /// Whether the queue was opened by a direct format name.
     pub direct_queue: bool,
-    /// The split number.
+    /// The split number, where the request gives one.
     pub split_number: Option<u32>,
     /// ulProvNameLen.
     pub provider_name_length: u32,
@@ -76,7 +76,7 @@ impl From<&ffi::Sender> for Option<Sender> {
 /// The privacy of a message.
 #[derive(Debug, Clone, Copy, PartialEq, Eq, Hash)]
 pub enum Privacy {
-    /// A request's, 0, 1 or 2, which a packet holds as 0, 1 or 3.
+    /// A request's, 0, 1 or 2, which a packet holds as 0, 1 or 3. 1 is retired: only a section has it.
     Request(u32),
     /// A packet's PrivacyLevel that no request's becomes, any but 0, 1 and 3, as the packet holds it.
     Packet(u32),

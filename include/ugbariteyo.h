@@ -539,7 +539,7 @@ typedef struct ugb_sender {
     bool encryption;       /* encryption, asked for with a key; of a section EB */
 } ugb_sender;
 
-/* A request's privacy, of which only a section has the retired 1; or a PrivacyLevel that no request's privacy becomes. */
+/* A request's privacy (the retired 1 only of a section), or a PrivacyLevel that no request's privacy becomes. */
 typedef struct ugb_privacy {
     bool packet;    /* whether it is such a PrivacyLevel: of a request false, of a section where it is not 0, 1 or 3 */
     uint32_t level; /* it, as the packet holds it; else the request's 0, 1 or 2, which a packet holds as 0, 1 or 3 */

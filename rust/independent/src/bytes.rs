@@ -31,10 +31,3 @@ pub(crate) fn breaking_unit(units: &[u8]) -> u64 {
     let zero = units[..last].chunks_exact(2).position(|unit| unit == [0, 0]);
     zero.map_or(last, |before| 2 * before) as u64
 }
-
-/// Writes `units` to the start of `out`, as many as it has room for.
-pub(crate) fn put_units(units: &[u16], out: &mut [u8]) {
-    for (two, unit) in out.chunks_exact_mut(2).zip(units) {
-        two.copy_from_slice(&unit.to_le_bytes());
-    }
-}

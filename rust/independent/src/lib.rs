@@ -8,7 +8,8 @@
 //! - [`read`], [`support_copy`], [`same_summary`], [`label_shown`]: sections read and copied;
 //!   [`is_support_copy`]: whether a copy is right that someone else made.
 //! - [`mod@write`]: sections written from values and parts.
-//! - [`queue`]: queue format images, [`request`]: send requests, [`listing`]: day files, [`copies`]: their copies.
+//! - [`queue`]: queue format images, [`request`]: send requests, [`properties`]: those of a request or of
+//!   a section, [`listing`]: day files, [`copies`]: their copies.
 //! - [`field`]: the field or part that a place lies in; [`may_differ`]: the bits that a refusal does not
 //!   depend on; [`copy_by_sizes`]: what a refused section's copy would be.
 //! - [`generate`]: cases made at random for a comparison; [`neighbours`]: what steps a case breaks
@@ -29,6 +30,7 @@ mod lists;
 pub mod neighbours;
 mod order;
 pub mod planted;
+pub mod properties;
 mod proposed;
 pub mod queue;
 mod read;

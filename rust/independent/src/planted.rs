@@ -1,11 +1,12 @@
 //! Wrong versions that a comparison has to find: for each kind one or two plain functions with their
 //! answer or their output changed a little, and every function with two neighbouring steps of its
-//! list exchanged. What C-17 says of places and C-24 of copies and refusals has its wrong versions in files
-//! of their own.
+//! list exchanged. What C-17 says of places, C-18 of properties, and C-24 of copies and refusals has its
+//! wrong versions in files of their own.
 
 mod dependent;
 mod fields;
 mod places;
+mod properties;
 mod proposed;
 
 pub use dependent::{read_dependent, support_copy_dependent, Dependence};
@@ -13,6 +14,7 @@ pub use fields::{field_of, WrongField};
 pub use places::{
     copy_day_at_headers, list_placed, read_placed, support_copy_placed, write_placed, WrongPlace,
 };
+pub use properties::{defaulted_timed, properties, send_timed, WrongKnown, WrongTime};
 pub use proposed::{is_support_copy, WrongYes};
 
 use std::io::{self, Read, Write};
@@ -23,6 +25,7 @@ use crate::copy::support_copy_by;
 use crate::listing::{self, Answer, Line, RECORD};
 use crate::lists::{encryption_is_allowed, hash_is_retired, privacy_is_retired};
 use crate::order::{exchanged, Step};
+use crate::properties::{Handling, Properties};
 use crate::queue::{self, Image};
 use crate::read::read_by;
 use crate::request::{self, Request, RequestStep, SENDING};
@@ -68,9 +71,8 @@ pub fn send_class(extra: u16, request: &Request<'_>, out: &mut [u8]) -> Result<u
         return request::send(request, out);
     }
     let listed = Request { class: None, ..*request };
-    let properties = request::defaulted(&listed)?;
     let length = request::send(&listed, out)?;
-    let at = properties_at(&out[..length], properties.security_first());
+    let at = properties_at(&out[..length], request::sent(&listed)?.security_first);
     out[at + 2..at + 4].copy_from_slice(&extra.to_le_bytes());
     Ok(length)
 }
@@ -250,19 +252,19 @@ impl WrongStep {
         let test = &mut order[at].test;
         match self {
             Self::LeftOut => *test = |_| false,
-            Self::PrivacyTwo => *test = |f| f.is_retired() || f.properties.privacy_level == 2,
-            Self::HashIgnored => *test = |f| privacy_is_retired(f.properties.privacy_level),
+            Self::PrivacyTwo => *test = |f| f.is_retired() || f.privacy_level() == 2,
+            Self::HashIgnored => *test = |f| privacy_is_retired(f.privacy_level()),
             Self::Sha1 => {
-                *test = |f| f.is_retired() || f.is_signed() && f.properties.hash_algorithm == 0x8004;
+                *test = |f| f.is_retired() || f.is_signed() && f.values.carried.hash_algorithm == 0x8004;
             }
             Self::HashCut => {
                 *test = |f| {
-                    let hash = f.properties.hash_algorithm & 0xFFFF;
+                    let hash = f.values.carried.hash_algorithm & 0xFFFF;
                     f.is_retired() || f.is_signed() && hash_is_retired(hash)
                 };
             }
             Self::Unsigned => {
-                *test = |f| f.is_retired() || hash_is_retired(f.properties.hash_algorithm);
+                *test = |f| f.is_retired() || hash_is_retired(f.values.carried.hash_algorithm);
             }
             Self::HashAbsent => order[place("24")].answer = number::RETIRED,
             Self::BesidePrivacy => order[place("22")..=at].rotate_right(1),
@@ -273,11 +275,8 @@ impl WrongStep {
 }
 
 /// Defaults by wrong steps.
-pub fn defaulted_retired<'a>(
-    wrong: WrongStep,
-    request: &Request<'a>,
-) -> Result<request::Properties<'a>, Refusal> {
-    request::defaulted_by(&wrong.order(), request, ENDLESS)
+pub fn defaulted_retired<'a>(wrong: WrongStep, request: &Request<'a>) -> Result<Properties<'a>, Refusal> {
+    request::defaulted_by(&wrong.order(), request)
 }
 
 /// Sends by wrong steps.
@@ -328,18 +327,18 @@ pub fn write_image(
 }
 
 /// Leaves the delivery of a transaction as it was given.
-pub fn defaulted<'a>(request: &Request<'a>) -> Result<request::Properties<'a>, Refusal> {
-    let mut properties = request::defaulted(request)?;
-    properties.delivery = request.delivery.unwrap_or(0);
-    Ok(properties)
+pub fn defaulted<'a>(request: &Request<'a>) -> Result<Properties<'a>, Refusal> {
+    let properties = request::defaulted(request)?;
+    let delivery = request.delivery.unwrap_or(0);
+    let handling = properties.handling.map(|handling| Handling { delivery, ..handling });
+    Ok(Properties { handling, ..properties })
 }
 
 /// Copies the request's privacy 2 into the packet.
 pub fn send(request: &Request<'_>, out: &mut [u8]) -> Result<usize, Refusal> {
-    let properties = request::defaulted(request)?;
     let length = request::send(request, out)?;
-    let at = properties_at(&out[..length], properties.security_first());
-    out[at + 40..at + 44].copy_from_slice(&properties.privacy_level.to_le_bytes());
+    let at = properties_at(&out[..length], request::sent(request)?.security_first);
+    out[at + 40..at + 44].copy_from_slice(&request.privacy_level.unwrap_or(0).to_le_bytes());
     Ok(length)
 }
 
@@ -380,8 +379,8 @@ pub fn write_image_exchanged(
 }
 
 /// Defaults with two steps exchanged.
-pub fn defaulted_exchanged<'a>(at: usize, request: &Request<'a>) -> Result<request::Properties<'a>, Refusal> {
-    request::defaulted_by(&exchanged(SENDING, at), request, ENDLESS)
+pub fn defaulted_exchanged<'a>(at: usize, request: &Request<'a>) -> Result<Properties<'a>, Refusal> {
+    request::defaulted_by(&exchanged(SENDING, at), request)
 }
 
 /// Sends with two steps exchanged.

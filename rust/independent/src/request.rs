@@ -1,8 +1,8 @@
 //! Send requests: absent values filled in, the steps 1 to 6, and the section that is written.
 
-use crate::bytes::put_units;
 use crate::lists::{class_is_listed, hash_is_retired, privacy_is_retired};
 use crate::order::{first_failure, Judged, Step};
+use crate::properties::{Carried, Handling, Privacy, Properties, Provider, Sender, Units};
 use crate::section::{SecurityFlags, LABEL_MOST, LIMIT};
 use crate::steps::{identity_is_right, Headers, PropertiesHeader, SecurityHeader, ENDLESS, LABEL_BYTES_MOST};
 use crate::{number, write_section, Refusal, SectionValues};
@@ -17,6 +17,10 @@ const PROVIDER_MOST: usize = 4 + 2 * (NAME_MOST + 1);
 /// A send request as it is handed in. An absent number is `None`, an absent part is empty.
 #[derive(Debug, Clone, Copy, PartialEq, Eq, Default)]
 pub struct Request<'a> {
+    /// Time to queue, always given; 0 becomes 0xFFFFFFFF.
+    pub time_to_queue: u32,
+    /// Time to live, always given.
+    pub time_to_live: u32,
     /// Priority, 0 to 7; 3 where absent.
     pub priority: Option<u32>,
     /// Trace, 0 or 1.
@@ -75,73 +79,19 @@ pub struct Request<'a> {
     pub encryption: bool,
 }
 
-/// The defaulted values of a legal request.
+/// A section that is sent.
 #[derive(Debug, Clone, Copy, PartialEq, Eq)]
-pub struct Properties<'a> {
-    /// Priority, 0 to 7.
-    pub priority: u32,
-    /// Trace, 0 or 1.
-    pub trace: u32,
-    /// Delivery, 0 or 1; 1 for a transaction.
-    pub delivery: u32,
-    /// Auditing, 0 to 3.
-    pub auditing: u32,
-    /// The message class, a listed one.
-    pub class: u32,
-    /// Acknowledge, 0 to 15.
-    pub acknowledge: u32,
-    /// The application's tag.
-    pub application_tag: u32,
-    /// The request's privacy: 0 or 2, since 1 is retired.
-    pub privacy_level: u32,
-    /// The hash algorithm.
-    pub hash_algorithm: u32,
-    /// The encryption algorithm.
-    pub encryption_algorithm: u32,
-    /// The body's type.
-    pub body_type: u32,
-    /// The provider's type.
-    pub provider_type: u32,
-    /// The kind of sender identity, 0 to 2.
-    pub sender_kind: u32,
-    /// The split number, where there is one.
-    pub split_number: Option<u32>,
-    /// The name length of the request.
-    pub provider_name_length: u32,
-    /// The correlation identifier.
-    pub correlation_id: [u8; 20],
-    /// The title as cut, without the null.
-    pub title: &'a [u16],
-    /// The sender's identity.
-    pub sender_id: &'a [u8],
-    /// The encryption key.
-    pub encryption_key: &'a [u8],
-    /// The signature as cut.
-    pub signature: &'a [u8],
-    /// The sender's certificate.
-    pub sender_cert: &'a [u8],
-    /// The provider name, without a null.
-    pub provider_name: &'a [u16],
-    /// The extension data.
-    pub extension: &'a [u8],
-    /// The body; empty where absent.
-    pub body: &'a [u8],
-    /// The body's allocation; 0 where the body is absent.
-    pub allocation: u64,
-    /// The message belongs to a transaction.
-    pub transaction: bool,
-    /// The queue was opened by a direct format name.
-    pub direct_queue: bool,
-    /// The default provider.
-    pub default_provider: bool,
-    /// Encryption, asked for and with a key.
-    pub encryption: bool,
+pub struct Sent {
+    /// Its length.
+    pub length: usize,
+    /// Whether a SecurityHeader stands first.
+    pub security_first: bool,
 }
 
-/// Steps 1 to 6 without 13. Gives the defaulted values of a request they pass; every refusal has
+/// Steps 1 to 6 without 13. Gives the defaulted properties of a request they pass; every refusal has
 /// place 0.
 pub fn defaulted<'a>(request: &Request<'a>) -> Result<Properties<'a>, Refusal> {
-    defaulted_by(&SENDING, request, ENDLESS)
+    defaulted_by(&SENDING, request)
 }
 
 /// Writes the section of a legal request to the start of `out` and gives its length. Refuses as
@@ -150,22 +100,33 @@ pub fn send(request: &Request<'_>, out: &mut [u8]) -> Result<usize, Refusal> {
     send_by(&SENDING, request, out)
 }
 
-/// [`defaulted`] by the steps of `order`, with so many bytes of output lent.
+/// The section that [`send`] writes of a request. Refuses as [`defaulted`] does.
+pub fn sent(request: &Request<'_>) -> Result<Sent, Refusal> {
+    let values = values_by(&SENDING, request, ENDLESS)?;
+    Ok(Sent { length: values.section_length(), security_first: values.security_first() })
+}
+
+/// [`defaulted`] by the steps of `order`.
 #[inline(always)]
 pub(crate) fn defaulted_by<'a>(
     order: &[RequestStep],
     request: &Request<'a>,
-    output: usize,
 ) -> Result<Properties<'a>, Refusal> {
+    values_by(order, request, ENDLESS).map(|values| values.properties())
+}
+
+/// The values of a request that the steps of `order` pass, with so many bytes of output lent.
+#[inline(always)]
+fn values_by<'a>(order: &[RequestStep], request: &Request<'a>, output: usize) -> Result<Values<'a>, Refusal> {
     let filled_in = FilledIn::new(request, output);
     if let Some(step) = first_failure(order, &filled_in) {
         return Err(Refusal::at_start(step.answer));
     }
-    let mut properties = filled_in.properties;
+    let mut values = filled_in.values;
     if request.transaction {
-        properties.delivery = 1;
+        values.handling.delivery = 1;
     }
-    Ok(properties)
+    Ok(values)
 }
 
 /// [`send`] by the steps of `order`.
@@ -175,17 +136,17 @@ pub(crate) fn send_by(
     request: &Request<'_>,
     out: &mut [u8],
 ) -> Result<usize, Refusal> {
-    let properties = defaulted_by(order, request, out.len())?;
+    let values = values_by(order, request, out.len())?;
     let mut label = [0; LABEL_BYTES_MOST];
     let mut provider_info = [0; PROVIDER_MOST];
-    let label_length = put_label(&properties, &mut label);
-    let provider_length = put_provider_info(&properties, &mut provider_info);
-    let values = SectionValues {
+    let label_length = values.put_label(&mut label);
+    let provider_length = values.put_provider_info(&mut provider_info);
+    let section = SectionValues {
         label: &label[..label_length],
         provider_info: &provider_info[..provider_length],
-        ..properties.values_without_texts()
+        ..values.without_texts()
     };
-    write_section(&values, out)
+    write_section(&section, out)
 }
 
 /// A step of a request; it answers with the refusal's number.
@@ -198,9 +159,9 @@ const fn step(name: &'static str, number: u32, fails: fn(&FilledIn<'_, '_>) -> b
 /// Steps 1 to 6; 29, of C-21, "right after 24".
 pub(crate) const SENDING: [RequestStep; 14] = [
     step("20", number::RANGE, |f| f.is_out_of_range()),
-    step("10", number::CLASS, |f| !u16::try_from(f.properties.class).is_ok_and(class_is_listed)),
-    step("21", number::PRIVACY, |f| f.properties.privacy_level > 2),
-    step("22", number::DIRECT_PRIVACY, |f| f.request.direct_queue && f.properties.privacy_level != 0),
+    step("10", number::CLASS, |f| !u16::try_from(f.values.carried.class).is_ok_and(class_is_listed)),
+    step("21", number::PRIVACY, |f| f.privacy_level() > 2),
+    step("22", number::DIRECT_PRIVACY, |f| f.request.direct_queue && f.privacy_level() != 0),
     step("23", number::ALGORITHM_ABSENT, |f| {
         f.request.privacy_level.is_some() && f.request.encryption_algorithm.is_none()
     }),
@@ -215,10 +176,18 @@ pub(crate) const SENDING: [RequestStep; 14] = [
     step("13", number::OUTPUT_SHORT, |f| f.headers.properties.length() > f.headers.output as u64),
 ];
 
+/// The values of a request, every absent one filled in.
+pub(crate) struct Values<'a> {
+    pub(crate) handling: Handling,
+    pub(crate) sender: Sender,
+    pub(crate) provider: Provider<'a>,
+    pub(crate) carried: Carried<'a>,
+}
+
 /// A request as its steps look at it: every absent value filled in, the title and the signature cut.
 pub(crate) struct FilledIn<'r, 'a> {
     request: &'r Request<'a>,
-    pub(crate) properties: Properties<'a>,
+    pub(crate) values: Values<'a>,
     /// Whether step 5 could cut the signature; where not, it is as it was given.
     split_fits: bool,
     /// The headers of the section that would be written.
@@ -239,8 +208,9 @@ impl<'r, 'a> FilledIn<'r, 'a> {
     /// The request, with so many bytes of output lent.
     pub(crate) fn new(request: &'r Request<'a>, output: usize) -> Self {
         let cut = cut_signature(request);
-        let properties = Properties { signature: cut.unwrap_or(request.signature), ..filled_in(request) };
-        Self { request, split_fits: cut.is_some(), headers: properties.headers(output), properties }
+        let mut values = Values::new(request);
+        values.carried.signature = cut.unwrap_or(request.signature);
+        Self { request, split_fits: cut.is_some(), headers: values.headers(output), values }
     }
 
     /// "Signature bytes given."
@@ -248,25 +218,30 @@ impl<'r, 'a> FilledIn<'r, 'a> {
         !self.request.signature.is_empty()
     }
 
+    /// The request's privacy, whatever its number.
+    pub(crate) fn privacy_level(&self) -> u32 {
+        self.request.privacy_level.unwrap_or(0)
+    }
+
     /// 20.
     fn is_out_of_range(&self) -> bool {
-        let properties = &self.properties;
-        properties.priority > 7
-            || properties.trace > 1
-            || properties.delivery > 1
-            || properties.acknowledge > 15
-            || properties.auditing > 3
+        let handling = &self.values.handling;
+        handling.priority > 7
+            || handling.trace > 1
+            || handling.delivery > 1
+            || self.values.carried.acknowledge > 15
+            || handling.auditing > 3
     }
 
     /// 29: "retired privacy, then retired hash where the request is signed".
     pub(crate) fn is_retired(&self) -> bool {
-        privacy_is_retired(self.properties.privacy_level)
-            || self.is_signed() && hash_is_retired(self.properties.hash_algorithm)
+        privacy_is_retired(self.privacy_level())
+            || self.is_signed() && hash_is_retired(self.values.carried.hash_algorithm)
     }
 
     /// 25.
     fn identity_fits(&self) -> bool {
-        match self.properties.sender_kind {
+        match self.values.sender.kind {
             kind @ 0..=2 => identity_is_right(kind as u8, self.request.sender_id),
             _ => false,
         }
@@ -280,43 +255,6 @@ impl<'r, 'a> FilledIn<'r, 'a> {
         } else {
             (1..=NAME_MOST).contains(&name.len()) && !name.contains(&0)
         }
-    }
-}
-
-/// "An absent value gets": the request with every absent value filled in and the title cut, before
-/// any step.
-fn filled_in<'a>(request: &Request<'a>) -> Properties<'a> {
-    let (body, allocation) = request.body.unwrap_or_default();
-    Properties {
-        priority: request.priority.unwrap_or(3),
-        trace: request.trace.unwrap_or(0),
-        delivery: request.delivery.unwrap_or(0),
-        auditing: request.auditing.unwrap_or(0),
-        class: request.class.unwrap_or(0),
-        acknowledge: request.acknowledge.unwrap_or(0),
-        application_tag: request.application_tag.unwrap_or(0),
-        privacy_level: request.privacy_level.unwrap_or(0),
-        hash_algorithm: request.hash_algorithm.unwrap_or(0),
-        encryption_algorithm: request.encryption_algorithm.unwrap_or(0),
-        body_type: request.body_type.unwrap_or(0),
-        provider_type: request.provider_type.unwrap_or(0),
-        sender_kind: request.sender_kind.unwrap_or(0),
-        split_number: request.split_number,
-        provider_name_length: request.provider_name_length,
-        correlation_id: request.correlation_id.unwrap_or_default(),
-        title: cut_title(request.title),
-        sender_id: request.sender_id,
-        encryption_key: request.encryption_key,
-        signature: request.signature,
-        sender_cert: request.sender_cert,
-        provider_name: request.provider_name,
-        extension: request.extension,
-        body,
-        allocation,
-        transaction: request.transaction,
-        direct_queue: request.direct_queue,
-        default_provider: request.default_provider,
-        encryption: request.encryption && !request.encryption_key.is_empty(),
     }
 }
 
@@ -338,50 +276,110 @@ fn cut_signature<'a>(request: &Request<'a>) -> Option<&'a [u8]> {
     Some(&signature[signature.len().checked_sub(count as usize)?..])
 }
 
-impl<'a> Properties<'a> {
-    /// Whether the section begins with a SecurityHeader: "when identity, key, signature or
-    /// certificate is not empty".
-    pub fn security_first(&self) -> bool {
-        !(self.sender_id.is_empty()
-            && self.encryption_key.is_empty()
-            && self.signature.is_empty()
-            && self.sender_cert.is_empty())
+fn handling(request: &Request<'_>) -> Handling {
+    Handling {
+        priority: request.priority.unwrap_or(3),
+        trace: request.trace.unwrap_or(0),
+        delivery: request.delivery.unwrap_or(0),
+        auditing: request.auditing.unwrap_or(0),
+        transaction: request.transaction,
+        direct_queue: request.direct_queue,
+        split_number: request.split_number,
+        provider_name_length: request.provider_name_length,
+        time_to_queue: match request.time_to_queue {
+            0 => 0xFFFFFFFF,
+            given => given,
+        },
+        time_to_live: request.time_to_live,
     }
+}
 
-    /// The packet's privacy: "0, 1 or 3 for a request's 0, 1 or 2".
-    pub fn packet_privacy(&self) -> u32 {
-        match self.privacy_level {
-            2 => 3,
-            other => other,
+fn carried<'a>(request: &Request<'a>) -> Carried<'a> {
+    let (body, allocation) = request.body.unwrap_or_default();
+    Carried {
+        class: request.class.unwrap_or(0),
+        acknowledge: request.acknowledge.unwrap_or(0),
+        application_tag: request.application_tag.unwrap_or(0),
+        privacy_level: Privacy::Request(request.privacy_level.unwrap_or(0)),
+        hash_algorithm: request.hash_algorithm.unwrap_or(0),
+        encryption_algorithm: request.encryption_algorithm.unwrap_or(0),
+        body_type: request.body_type.unwrap_or(0),
+        allocation,
+        correlation_id: request.correlation_id.unwrap_or_default(),
+        title: Units::Given(cut_title(request.title)),
+        sender_id: request.sender_id,
+        encryption_key: request.encryption_key,
+        signature: request.signature,
+        sender_cert: request.sender_cert,
+        extension: request.extension,
+        body,
+    }
+}
+
+impl<'a> Values<'a> {
+    /// "An absent value gets": the request with every absent value filled in and the title cut, before
+    /// any step.
+    fn new(request: &Request<'a>) -> Self {
+        let encryption = request.encryption && !request.encryption_key.is_empty();
+        Self {
+            handling: handling(request),
+            sender: Sender {
+                kind: request.sender_kind.unwrap_or(0),
+                default_provider: request.default_provider,
+                encryption,
+            },
+            provider: Provider {
+                kind: request.provider_type.unwrap_or(0),
+                name: Units::Given(request.provider_name),
+            },
+            carried: carried(request),
         }
     }
 
+    /// A request's properties are all known.
+    fn properties(&self) -> Properties<'a> {
+        Properties {
+            handling: Some(self.handling),
+            sender: Some(self.sender),
+            provider: Some(self.provider),
+            carried: self.carried,
+        }
+    }
+
+    /// Whether the section begins with a SecurityHeader: "when identity, key, signature or
+    /// certificate is not empty".
+    fn security_first(&self) -> bool {
+        let Carried { sender_id, encryption_key, signature, sender_cert, .. } = self.carried;
+        !(sender_id.is_empty() && encryption_key.is_empty() && signature.is_empty() && sender_cert.is_empty())
+    }
+
     /// The length of the section that is written.
-    pub fn section_length(&self) -> usize {
+    fn section_length(&self) -> usize {
         self.headers(ENDLESS).properties.length() as usize
     }
 
     /// The headers of the section, without the texts, which are made for writing only.
     fn headers(&self, output: usize) -> Headers<'a> {
+        let carried = &self.carried;
         let security = self.security_first().then(|| SecurityHeader {
             input: ENDLESS,
             flags: SecurityFlags::new(self.security_flags()),
-            identity: self.sender_id.len() as u64,
-            key: self.encryption_key.len() as u64,
-            signature: self.signature.len() as u64,
-            certificate: self.sender_cert.len() as u64,
+            identity: carried.sender_id.len() as u64,
+            key: carried.encryption_key.len() as u64,
+            signature: carried.signature.len() as u64,
+            certificate: carried.sender_cert.len() as u64,
             provider: self.provider_length() as u64,
-            identity_bytes: self.sender_id,
+            identity_bytes: carried.sender_id,
             provider_info: &[],
         });
         let properties = PropertiesHeader {
             input: ENDLESS,
             at: security.as_ref().map_or(0, SecurityHeader::length),
             label_bytes: 2 * self.label_units() as u64,
-            class: self.class as u16,
-            message_size: self.body.len() as u64,
-            allocation: self.allocation,
-            extension: self.extension.len() as u64,
+            class: carried.class as u16,
+            message_size: carried.body.len() as u64,
+            allocation: carried.allocation,
+            extension: carried.extension.len() as u64,
             label: &[],
         };
         Headers { security, properties, output }
@@ -389,7 +387,7 @@ impl<'a> Properties<'a> {
 
     /// The label's units, its null included; 0 for an empty title.
     fn label_units(&self) -> usize {
-        match self.title.len() {
+        match self.carried.title.count() {
             0 => 0,
             units => units + 1,
         }
@@ -397,19 +395,19 @@ impl<'a> Properties<'a> {
 
     /// The bytes of the provider info, "written only for a signature by another provider".
     fn provider_length(&self) -> usize {
-        if self.signature.is_empty() || self.default_provider {
+        if self.carried.signature.is_empty() || self.sender.default_provider {
             0
         } else {
-            4 + 2 * (self.provider_name.len() + 1)
+            4 + 2 * (self.provider.name.count() + 1)
         }
     }
 
     fn security_flags(&self) -> u16 {
-        let mut flags = self.sender_kind as u16 | SecurityFlags::DATA_PRESENT;
-        if self.default_provider {
+        let mut flags = self.sender.kind as u16 | SecurityFlags::DATA_PRESENT;
+        if self.sender.default_provider {
             flags |= SecurityFlags::DEFAULT_PROVIDER;
         }
-        if self.encryption {
+        if self.sender.encryption {
             flags |= SecurityFlags::BODY_ENCRYPTED;
         }
         flags
@@ -417,43 +415,44 @@ impl<'a> Properties<'a> {
 
     /// The section's values but label and provider info. The numbers passed step 1, so that the
     /// casts keep their values.
-    fn values_without_texts(&self) -> SectionValues<'a> {
+    fn without_texts(&self) -> SectionValues<'a> {
+        let carried = &self.carried;
         SectionValues {
             security_first: self.security_first(),
             security_flags: self.security_flags(),
-            sender_id: self.sender_id,
-            encryption_key: self.encryption_key,
-            signature: self.signature,
-            sender_cert: self.sender_cert,
+            sender_id: carried.sender_id,
+            encryption_key: carried.encryption_key,
+            signature: carried.signature,
+            sender_cert: carried.sender_cert,
             provider_info: &[],
-            flags: self.acknowledge as u8,
-            message_class: self.class as u16,
-            correlation_id: self.correlation_id,
-            body_type: self.body_type,
-            application_tag: self.application_tag,
-            allocation_body_size: self.allocation,
-            privacy_level: self.packet_privacy(),
-            hash_algorithm: self.hash_algorithm,
-            encryption_algorithm: self.encryption_algorithm,
+            flags: carried.acknowledge as u8,
+            message_class: carried.class as u16,
+            correlation_id: carried.correlation_id,
+            body_type: carried.body_type,
+            application_tag: carried.application_tag,
+            allocation_body_size: carried.allocation,
+            privacy_level: carried.privacy_level.packet_level(),
+            hash_algorithm: carried.hash_algorithm,
+            encryption_algorithm: carried.encryption_algorithm,
             label: &[],
-            extension: self.extension,
-            body: self.body,
+            extension: carried.extension,
+            body: carried.body,
         }
     }
-}
 
-/// Writes the title, a null behind it, to `label`, which is all zero; gives the number of bytes.
-fn put_label(properties: &Properties<'_>, label: &mut [u8; LABEL_BYTES_MOST]) -> usize {
-    put_units(properties.title, label);
-    2 * properties.label_units()
-}
-
-/// Writes type and name, a null behind it, to `info`, which is all zero; gives the number of bytes.
-fn put_provider_info(properties: &Properties<'_>, info: &mut [u8; PROVIDER_MOST]) -> usize {
-    let length = properties.provider_length();
-    if length != 0 {
-        info[..4].copy_from_slice(&properties.provider_type.to_le_bytes());
-        put_units(properties.provider_name, &mut info[4..]);
+    /// Writes the title, a null behind it, to `label`, which is all zero; gives the number of bytes.
+    fn put_label(&self, label: &mut [u8; LABEL_BYTES_MOST]) -> usize {
+        self.carried.title.put(label);
+        2 * self.label_units()
     }
-    length
+
+    /// Writes type and name, a null behind it, to `info`, which is all zero; gives the number of bytes.
+    fn put_provider_info(&self, info: &mut [u8; PROVIDER_MOST]) -> usize {
+        let length = self.provider_length();
+        if length != 0 {
+            info[..4].copy_from_slice(&self.provider.kind.to_le_bytes());
+            self.provider.name.put(&mut info[4..]);
+        }
+        length
+    }
 }

@@ -287,7 +287,7 @@ fn example_11_titles() {
     for (units, label_length) in [(249, 250), (250, 250), (248, 249), (0, 0)] {
         let title = vec![0x61; units];
         let request = Request { title: &title, ..Request::default() };
-        assert_eq!(defaulted(&request).unwrap().title.len(), units.min(249));
+        assert_eq!(defaulted(&request).unwrap().carried.title.count(), units.min(249));
         let mut out = vec![0; 600];
         let length = send(&request, &mut out).unwrap();
         let section = read(&out[..length], false).unwrap();

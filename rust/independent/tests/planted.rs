@@ -1,9 +1,10 @@
 //! Each wrong version differs from the plain one somewhere in the generated cases.
 
 use independent::field::field_of;
-use independent::generate::{case, day, image, image_values, place_case, place_values, request};
-use independent::generate::{section_values, Random};
-use independent::planted::{Dependence, WrongField, WrongPlace, WrongYes};
+use independent::generate::{case, day, image, image_values, place_case, place_values, properties_case};
+use independent::generate::{request, section_values, Random};
+use independent::planted::{Dependence, WrongField, WrongKnown, WrongPlace, WrongTime, WrongYes};
+use independent::properties::Properties;
 use independent::{copies, listing, planted, queue, read, request as requests, support_copy, write_section};
 use independent::{copy_by_sizes, is_support_copy, Refusal, Section};
 
@@ -153,6 +154,37 @@ fn steps_on_what_is_retired() {
             );
             assert!(sent || !values, "where the values differ, so does what is sent");
             values
+        });
+        assert!(found > 0, "{wrong:?}");
+    }
+}
+
+#[test]
+fn times() {
+    for wrong in WrongTime::ALL {
+        let found = differences(18, |r| {
+            let owned = request(r);
+            let request = owned.as_request();
+            let sent = writers_differ(
+                owned.room,
+                |out| requests::send(&request, out),
+                |out| planted::send_timed(wrong, &request, out),
+            );
+            assert!(!sent || matches!(wrong, WrongTime::Checked | WrongTime::Written), "{wrong:?}");
+            sent || requests::defaulted(&request) != planted::defaulted_timed(wrong, &request)
+        });
+        assert!(found > 0, "{wrong:?}");
+    }
+}
+
+#[test]
+fn properties_of_sections() {
+    for wrong in WrongKnown::ALL {
+        let found = differences(19, |r| {
+            let case = properties_case(r);
+            let (input, first) = (&case.bytes[..], case.security_first);
+            let plain = read(input, first).map(|section| Properties::of(&section));
+            plain != planted::properties(wrong, input, first)
         });
         assert!(found > 0, "{wrong:?}");
     }

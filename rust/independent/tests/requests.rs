@@ -1,7 +1,8 @@
 //! Send requests: defaults, steps in their order, and the section that is sent.
 
 use independent::generate::{request, Random};
-use independent::request::{defaulted, send, Properties, Request};
+use independent::properties::{Privacy, Properties, Units};
+use independent::request::{defaulted, send, sent, Request};
 use independent::{number, read, Refusal, Section, LIMIT};
 
 /// The refusal's number, or 0; a refusal has place 0 and leaves the output as it stood.
@@ -31,24 +32,25 @@ fn signed() -> Request<'static> {
 
 #[test]
 fn an_absent_value_gets_its_default() {
-    let properties = defaulted(&Request::default()).unwrap();
-    assert_eq!(properties.priority, 3);
+    let Properties { handling, sender, provider, carried } = defaulted(&Request::default()).unwrap();
+    let handling = handling.unwrap();
+    assert_eq!(handling.priority, 3);
     let zeros = [
-        properties.trace,
-        properties.delivery,
-        properties.auditing,
-        properties.class,
-        properties.acknowledge,
-        properties.application_tag,
-        properties.privacy_level,
-        properties.hash_algorithm,
-        properties.encryption_algorithm,
-        properties.body_type,
-        properties.provider_type,
-        properties.sender_kind,
+        handling.trace,
+        handling.delivery,
+        handling.auditing,
+        carried.class,
+        carried.acknowledge,
+        carried.application_tag,
+        carried.hash_algorithm,
+        carried.encryption_algorithm,
+        carried.body_type,
+        provider.unwrap().kind,
+        sender.unwrap().kind,
     ];
-    assert_eq!(zeros, [0; 12]);
-    assert_eq!((properties.correlation_id, properties.allocation), ([0; 20], 0));
+    assert_eq!(zeros, [0; 11]);
+    assert_eq!(carried.privacy_level, Privacy::Request(0));
+    assert_eq!((carried.correlation_id, carried.allocation), ([0; 20], 0));
     let mut out = [0x55; 60];
     assert_eq!(send(&Request::default(), &mut out), Ok(56));
     assert_eq!((&out[..56], &out[56..]), (&[0; 56][..], &[0x55; 4][..]));
@@ -76,7 +78,7 @@ fn step_1() {
     }
     for delivery in [None, Some(0), Some(1)] {
         let request = Request { delivery, transaction: true, ..none };
-        assert_eq!(defaulted(&request).unwrap().delivery, 1);
+        assert_eq!(defaulted(&request).unwrap().handling.unwrap().delivery, 1);
     }
 }
 
@@ -190,7 +192,7 @@ fn step_4() {
         assert_eq!(answer(&request), if passes { 0 } else { number::REQUEST_PROVIDER });
     }
     let absent_type = Request { provider_type: None, ..signed() };
-    assert_eq!(defaulted(&absent_type).unwrap().provider_type, 0);
+    assert_eq!(defaulted(&absent_type).unwrap().provider.unwrap().kind, 0);
 }
 
 #[test]
@@ -206,7 +208,7 @@ fn step_5() {
         (split(104, 100), b"ture"),
         (split(u32::MAX, u32::MAX - 2), b"re"),
     ] {
-        assert_eq!(defaulted(&request).unwrap().signature, cut);
+        assert_eq!(defaulted(&request).unwrap().carried.signature, cut);
     }
     for request in
         [split(0, 0), split(10, 0), split(3, 3), split(3, 4), split(3, u32::MAX), split(0, u32::MAX)]
@@ -217,7 +219,7 @@ fn step_5() {
         assert_eq!(answer(&request), number::SPLIT);
     }
     let without = Request { split_number: None, provider_name_length: 77, ..signed() };
-    assert_eq!(defaulted(&without).unwrap().signature, b"signature");
+    assert_eq!(defaulted(&without).unwrap().carried.signature, b"signature");
 }
 
 #[test]
@@ -244,7 +246,7 @@ fn step_6() {
         assert_eq!(answer(&Request { body: Some((body, allocation)), ..none }), expected);
     }
     let empty = Request { body: Some((&[], 9)), ..none };
-    assert_eq!(defaulted(&empty).unwrap().allocation, 9);
+    assert_eq!(defaulted(&empty).unwrap().carried.allocation, 9);
     let zeros = vec![0; LIMIT as usize - 55];
     assert_eq!(answer(&Request { extension: &zeros, ..none }), number::LIMIT);
     let wrong = Request { extension: &zeros, body: Some((body, 3)), ..none };
@@ -261,7 +263,7 @@ fn titles_are_cut_at_the_first_zero_then_at_249() {
         title.fill(0x61);
         title[zero] = 0;
         let request = Request { title: &title, ..Request::default() };
-        assert_eq!(defaulted(&request).unwrap().title, vec![0x61; units]);
+        assert_eq!(defaulted(&request).unwrap().carried.title, Units::Given(&vec![0x61; units]));
     }
 }
 
@@ -276,7 +278,7 @@ fn privacy_2_is_3_in_the_packet() {
         let mut out = [0; 56];
         send(&request, &mut out).unwrap();
         assert_eq!(read(&out, false).unwrap().summary.properties.privacy, packet);
-        assert_eq!(defaulted(&request).unwrap().privacy_level, privacy);
+        assert_eq!(defaulted(&request).unwrap().carried.privacy_level, Privacy::Request(privacy));
     }
 }
 
@@ -295,56 +297,54 @@ fn marks_in_the_security_flags() {
     assert_eq!(flags(Request { sender_kind: Some(2), sender_id: &[0; 16], ..key }), 0x82);
 }
 
-fn with_null(units: &[u16]) -> Vec<u8> {
-    units.iter().chain(&[0]).flat_map(|unit| unit.to_le_bytes()).collect()
+fn with_null(units: Units) -> Vec<u8> {
+    units.iter().chain([0]).flat_map(u16::to_le_bytes).collect()
 }
 
 /// That `section` carries every defaulted value.
 fn carries(section: &Section, properties: &Properties) {
-    let judged = section.summary.properties;
-    assert_eq!(u32::from(judged.class), properties.class);
-    assert_eq!(u32::from(judged.flags), properties.acknowledge);
-    assert_eq!(section.correlation_id, &properties.correlation_id);
-    assert_eq!(section.application_tag, properties.application_tag);
-    assert_eq!(judged.body_type, properties.body_type);
-    assert_eq!(judged.privacy, [0, 1, 3][properties.privacy_level as usize]);
-    assert_eq!(
-        (judged.hash, judged.encryption),
-        (properties.hash_algorithm, properties.encryption_algorithm)
-    );
-    assert_eq!((section.extension, section.body), (properties.extension, properties.body));
-    assert_eq!(u64::from(judged.allocation), properties.allocation);
-    let label = if properties.title.is_empty() { vec![] } else { with_null(properties.title) };
+    let (judged, carried) = (section.summary.properties, properties.carried);
+    assert_eq!(u32::from(judged.class), carried.class);
+    assert_eq!(u32::from(judged.flags), carried.acknowledge);
+    assert_eq!(section.correlation_id, &carried.correlation_id);
+    assert_eq!(section.application_tag, carried.application_tag);
+    assert_eq!(judged.body_type, carried.body_type);
+    assert_eq!(judged.privacy, if carried.privacy_level == Privacy::Request(2) { 3 } else { 0 });
+    assert_eq!((judged.hash, judged.encryption), (carried.hash_algorithm, carried.encryption_algorithm));
+    assert_eq!((section.extension, section.body), (carried.extension, carried.body));
+    assert_eq!(u64::from(judged.allocation), carried.allocation);
+    let label = if carried.title.count() == 0 { vec![] } else { with_null(carried.title) };
     assert_eq!(judged.label, label);
-    assert_eq!((section.identity, section.key), (properties.sender_id, properties.encryption_key));
-    assert_eq!((section.signature, section.certificate), (properties.signature, properties.sender_cert));
+    assert_eq!((section.identity, section.key), (carried.sender_id, carried.encryption_key));
+    assert_eq!((section.signature, section.certificate), (carried.signature, carried.sender_cert));
     if let Some(security) = section.summary.security {
-        assert_eq!(u32::from(security.flags.sender_kind()), properties.sender_kind);
-        assert_eq!(security.flags.default_provider(), properties.default_provider);
-        assert_eq!(security.flags.body_encrypted(), properties.encryption);
-        let named = !properties.signature.is_empty() && !properties.default_provider;
-        assert_eq!(security.provider_type, named.then_some(properties.provider_type));
-        let name = if named { with_null(properties.provider_name) } else { vec![] };
-        assert_eq!(security.provider_name, name);
+        let (sender, provider) = (properties.sender.unwrap(), properties.provider.unwrap());
+        assert_eq!(u32::from(security.flags.sender_kind()), sender.kind);
+        assert_eq!(security.flags.default_provider(), sender.default_provider);
+        assert_eq!(security.flags.body_encrypted(), sender.encryption);
+        let named = !carried.signature.is_empty() && !sender.default_provider;
+        assert_eq!(security.provider_type, named.then_some(provider.kind));
+        assert_eq!(security.provider_name, if named { with_null(provider.name) } else { vec![] });
     }
 }
 
 #[test]
 fn what_is_sent_reads_back_as_the_defaulted_values() {
     let mut r = Random::new(31);
-    let mut sent = 0;
+    let mut count = 0;
     for _ in 0..30_000 {
         let owned = request(&mut r);
         let mut out = vec![0x55; owned.room];
         match send(&owned.as_request(), &mut out) {
             Ok(length) => {
                 let properties = defaulted(&owned.as_request()).unwrap();
-                assert_eq!(length, properties.section_length());
-                let section = read(&out[..length], properties.security_first()).unwrap();
+                let sent = sent(&owned.as_request()).unwrap();
+                assert_eq!(length, sent.length);
+                let section = read(&out[..length], sent.security_first).unwrap();
                 carries(&section, &properties);
                 assert!(!section.summary.retired);
                 assert!(out[length..].iter().all(|&byte| byte == 0x55));
-                sent += 1;
+                count += 1;
             }
             Err(refusal) => {
                 assert_eq!(refusal.place, 0);
@@ -352,5 +352,5 @@ fn what_is_sent_reads_back_as_the_defaulted_values() {
             }
         }
     }
-    assert!(sent > 6_000);
+    assert!(count > 6_000);
 }

@@ -5,6 +5,7 @@
 mod day;
 mod lists;
 mod places;
+mod properties;
 mod queue;
 mod random;
 mod request;
@@ -14,6 +15,7 @@ mod values;
 pub use day::{day, long_day};
 pub use lists::CLASSES;
 pub use places::{place_case, place_values};
+pub use properties::properties_case;
 pub use queue::{image, image_values, ImageValues, PAIRS};
 pub use random::Random;
 pub use request::{request, OwnedRequest};

@@ -156,6 +156,14 @@ impl Random {
         let count = self.pick(&[5, CIPHERS.len()]);
         self.pick(&CIPHERS[..count])
     }
+    /// A time: often 0 or one of the others that a default may be mistaken for.
+    pub(super) fn time(&mut self) -> u32 {
+        match self.below(4) {
+            0 => 0,
+            1 => self.word() as u32,
+            _ => self.pick(&[0, 1, 0x10000, 0x80000000, 0xFFFFFFFE, 0xFFFFFFFF]),
+        }
+    }
     /// The steps that a case breaks: none, one to three of `list`, or two that follow each other in
     /// it. The `rare` ones, which take long, are seldom broken but beside a neighbour.
     pub(super) fn steps<'l>(&mut self, list: &[&'l str], rare: &[&str]) -> Vec<&'l str> {

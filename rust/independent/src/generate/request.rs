@@ -6,12 +6,16 @@ use super::lists::CLASSES;
 use super::random::{mark_identity, zero_bytes};
 use super::Random;
 use crate::order::names;
-use crate::request::{defaulted, Request, SENDING};
+use crate::request::{sent, Request, SENDING};
 use crate::LIMIT;
 
 /// A [`Request`] that owns its parts, and the bytes to lend for the output.
 #[derive(Debug, Clone, Default)]
 pub struct OwnedRequest {
+    /// Time to queue.
+    pub time_to_queue: u32,
+    /// Time to live.
+    pub time_to_live: u32,
     /// Priority.
     pub priority: Option<u32>,
     /// Trace.
@@ -86,7 +90,7 @@ pub fn request(r: &mut Random) -> OwnedRequest {
     if r.once_in(15) {
         request.break_title(r);
     }
-    let length = defaulted(&request.as_request()).map_or(0, |properties| properties.section_length());
+    let length = sent(&request.as_request()).map_or(0, |sent| sent.length);
     request.room = r.room(length, &steps);
     request
 }
@@ -95,6 +99,8 @@ impl OwnedRequest {
     /// The request, borrowed.
     pub fn as_request(&self) -> Request<'_> {
         Request {
+            time_to_queue: self.time_to_queue,
+            time_to_live: self.time_to_live,
             priority: self.priority,
             trace: self.trace,
             delivery: self.delivery,
@@ -153,6 +159,7 @@ impl OwnedRequest {
         self.application_tag = (!r.once_in(3)).then(|| r.word() as u32);
         self.body_type = (!r.once_in(3)).then(|| r.word() as u32);
         self.provider_name_length = r.small() as u32;
+        (self.time_to_queue, self.time_to_live) = (r.time(), r.time());
         self.correlation_id = (!r.once_in(3)).then(|| {
             let mut id = [0; 20];
             r.fill(&mut id);
@@ -411,7 +418,7 @@ impl OwnedRequest {
         }
         self.extension = Cow::default();
         self.body = None;
-        let length = defaulted(&self.as_request()).map_or(56, |properties| properties.section_length());
+        let length = sent(&self.as_request()).map_or(56, |sent| sent.length);
         let end = LIMIT as usize - length - 6 + r.pick(&[0, 2, 3, 4, 5, 6, 7, 7, 8, 8, 9, 10, 11]);
         if r.once_in(2) {
             self.extension = zero_bytes(end);

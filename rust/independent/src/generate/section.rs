@@ -428,7 +428,7 @@ pub fn case(r: &mut Random) -> Case {
 }
 
 /// Extends, cuts or flips now and then.
-fn damage(r: &mut Random, bytes: &mut Vec<u8>) {
+pub(super) fn damage(r: &mut Random, bytes: &mut Vec<u8>) {
     match r.below(12) {
         0 => {
             let more = 1 + r.below(70);

@@ -1,15 +1,17 @@
-//! 01's examples, C-14's, C-17's, C-21's and C-24's, held against each side. Where nothing else is said, their parts
-//! have content that passes S10, S11 and P7.
+//! 01's examples, C-14's, C-17's, C-18's, C-21's and C-24's, held against each side. Where nothing else is said, their
+//! parts have content that passes S10, S11 and P7.
 
 use crate::lend::lend;
 use crate::report::{agree, Check, Tally};
-use crate::side::{Answer, FieldAt, Part, Refusal, Request, SectionValues, Side, Sides, Source};
+use crate::side::{
+    Answer, FieldAt, Part, Privacy, Refusal, Request, SectionValues, Sender, Side, Sides, Source,
+};
 
 /// An example's name, and what it says of a side.
 type Example = (&'static str, fn(&dyn Side) -> Check);
 
 /// The examples, by their numbers.
-const EXAMPLES: [Example; 16] = [
+const EXAMPLES: [Example; 18] = [
     ("example 1", zero_bytes),
     ("example 2", parts_in_a_row),
     ("example 3", longest_label),
@@ -24,6 +26,8 @@ const EXAMPLES: [Example; 16] = [
     ("the listing's example", listing),
     ("C-14's example", level_and_algorithm),
     ("C-17's example", places),
+    ("C-18's example of requests", times),
+    ("C-18's example of sections", properties),
     ("C-21's example", retired),
     ("C-24's example", proposed),
 ];
@@ -238,7 +242,7 @@ fn titles(side: &dyn Side) -> Check {
     for (units, label_length) in [(249, 250), (250, 250), (248, 249), (0, 0)] {
         let title = vec![0x61; units];
         let request = Request { title: &title, ..Request::default() };
-        let kept = side.defaulted(&request).map(|values| values.title.len());
+        let kept = side.defaulted(&request).map(|properties| properties.title.len());
         agree("the title as cut", &kept, &Ok(units.min(249)))?;
         let sent = lend(600, |out| side.send(&request, out).map(|sent| sent.length));
         let read = side.summarize(sent.bytes(), false).map(|summary| summary.label_length);
@@ -306,6 +310,42 @@ fn places(side: &dyn Side) -> Check {
         writes(side, &SectionValues { body: name, ..values }, refused(11, 20 + 36))?;
     }
     Ok(())
+}
+
+/// The properties of a request have its times, the section that is sent does not.
+fn times(side: &dyn Side) -> Check {
+    for (queue, live, wanted) in [(0, 0, (0xFFFFFFFF, 0)), (1, 2, (1, 2)), (0xFFFFFFFF, 0, (0xFFFFFFFF, 0))] {
+        let request = Request { time_to_queue: queue, time_to_live: live, ..Request::default() };
+        let handling = side.defaulted(&request).map(|properties| properties.handling);
+        let found = handling.map(|known| known.map(|known| (known.time_to_queue, known.time_to_live)));
+        agree("the times", &found, &Ok(Some(wanted)))?;
+        let sent = lend(56, |out| side.send(&request, out).map(|sent| sent.length));
+        sent.is("the section sent", &Ok(&[0; 56]))?;
+    }
+    Ok(())
+}
+
+/// What is known of a section with a null for its label, at each level; and of one with provider info and EB.
+fn properties(side: &dyn Side) -> Check {
+    let levels = [(0, Privacy::Request(0)), (1, Privacy::Request(1)), (3, Privacy::Request(2))];
+    for (level, privacy) in
+        levels.into_iter().chain([2, 4, 5].map(|level| (level, Privacy::Packet(level.into()))))
+    {
+        let Input(mut bytes) = Input::plain(1, 0, 0, 0, &[0; 4]);
+        bytes[40] = level;
+        let found = side.properties(&bytes, false);
+        let known = found.as_ref().map(|found| (found.handling, found.sender, found.provider_type));
+        agree("what no such section carries", &known, &Ok((None, None, None)))?;
+        let carried = found.as_ref().map(|found| (found.privacy_level, found.title_length));
+        agree("privacy and title", &carried, &Ok((privacy, 0)))?;
+    }
+    let header = Input::security(0x00A0, [0, 0, 0], 0, 8, b"type\x61\0\0\0");
+    let Input(bytes) = header.properties(2, 0, 0, 0, b"a\0\0\0");
+    let found = side.properties(&bytes, true);
+    let known = found.as_ref().map(|found| (found.handling, found.sender, found.provider_type));
+    let sender = Sender { kind: 0, default_provider: false, encryption: true };
+    agree("what is known", &known, &Ok((None, Some(sender), Some(u32::from_le_bytes(*b"type")))))?;
+    agree("the title", &found.as_ref().map(|found| &found.title[..]), &Ok(&[0x61][..]))
 }
 
 /// Privacy 1, and MD5 beside a signature: written and read, but not sent. Privacy 2, SHA-1, and MD5 without a signature

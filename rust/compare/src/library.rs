@@ -11,8 +11,9 @@ use std::thread;
 use independent::queue::Value;
 use ugbariteyo as library;
 
-use crate::side::{Answer, Defaulted, FieldAt, Image, Line, Next, Part, Parts, Reading, Record, Records};
-use crate::side::{Refusal, Request, SectionValues, Security, Sent, Side, Source, Summary};
+use crate::side::Summary;
+use crate::side::{Answer, FieldAt, Handling, Image, Line, Next, Part, Parts, Privacy, Properties, Reading};
+use crate::side::{Record, Records, Refusal, Request, SectionValues, Security, Sender, Sent, Side, Source};
 
 /// Where the listing program lies where nothing else is said.
 const LISTING: &str = concat!(env!("CARGO_MANIFEST_DIR"), "/../../target/bin/listing");
@@ -81,8 +82,12 @@ impl Side for Library {
         let format = library::QueueFormat { kind: format[0], suffix_and_flags: format[1] };
         library::write_image_parts(format, fixed, text, out).map_err(refusal)
     }
-    fn defaulted<'a>(&self, values: &Request<'a>) -> Answer<Defaulted<'a>> {
-        library::defaulted(&request(values)).map(defaulted).map_err(refusal)
+    fn defaulted<'a>(&self, values: &Request<'a>) -> Answer<Properties<'a>> {
+        library::defaulted(&request(values)).map(properties).map_err(refusal)
+    }
+    fn properties<'a>(&self, input: &'a [u8], security_first: bool) -> Answer<Properties<'a>> {
+        let section = library::read(input, first(security_first)).map_err(refusal)?;
+        Ok(properties(section.properties()))
     }
     fn send(&self, values: &Request<'_>, out: &mut [u8]) -> Answer<Sent> {
         let sent = library::send(&request(values), out).map_err(refusal)?;
@@ -297,6 +302,8 @@ fn image(image: library::Image<'_>) -> Image<'_> {
 /// The request as the library takes it.
 pub fn request<'a>(request: &Request<'a>) -> library::Request<'a> {
     library::Request {
+        time_to_queue: request.time_to_queue,
+        time_to_live: request.time_to_live,
         priority: request.priority,
         trace: request.trace,
         delivery: request.delivery,
@@ -330,29 +337,44 @@ pub fn request<'a>(request: &Request<'a>) -> library::Request<'a> {
     }
 }
 
-fn defaulted(values: library::Properties<'_>) -> Defaulted<'_> {
-    let handling = values.handling.expect("a request's handling is known");
-    let sender = values.sender.expect("a request's sender is known");
-    Defaulted {
-        handling: [handling.priority, handling.trace, handling.delivery, handling.auditing],
+fn properties(found: library::Properties<'_>) -> Properties<'_> {
+    Properties {
+        handling: found.handling.map(handling),
+        sender: found.sender.map(sender),
+        provider_type: found.provider_type,
+        class: found.message_class,
+        acknowledge: found.acknowledge,
+        application_tag: found.application_tag,
+        privacy_level: match found.privacy_level {
+            library::Privacy::Request(level) => Privacy::Request(level),
+            library::Privacy::Packet(level) => Privacy::Packet(level),
+        },
+        hash_algorithm: found.hash_algorithm,
+        encryption_algorithm: found.encryption_algorithm,
+        body_type: found.body_type,
+        body_sizes: [found.message_size as u64, found.allocation_body_size as u64],
+        correlation_id: found.correlation_id,
+        title: found.title.units().collect(),
+        title_length: found.title.length().0 as usize,
+        signature: found.signature,
+    }
+}
+
+fn handling(handling: library::Handling) -> Handling {
+    Handling {
+        priority: handling.priority,
+        trace: handling.trace,
+        delivery: handling.delivery,
+        auditing: handling.auditing,
         transaction: handling.transaction,
         direct_queue: handling.direct_queue,
         split_number: handling.split_number,
         provider_name_length: handling.provider_name_length,
-        sender_kind: sender.kind,
-        default_provider: sender.default_provider,
-        encryption: sender.encryption,
-        provider_type: values.provider_type.expect("a request's provider type is known"),
-        class: values.message_class,
-        acknowledge: values.acknowledge,
-        application_tag: values.application_tag,
-        privacy_level: values.privacy_level,
-        hash_algorithm: values.hash_algorithm,
-        encryption_algorithm: values.encryption_algorithm,
-        body_type: values.body_type,
-        body_sizes: [values.message_size as u64, values.allocation_body_size as u64],
-        correlation_id: values.correlation_id,
-        title: values.title,
-        signature: values.signature,
+        time_to_queue: handling.time_to_queue,
+        time_to_live: handling.time_to_live,
     }
+}
+
+fn sender(sender: library::Sender) -> Sender {
+    Sender { kind: sender.kind, default_provider: sender.default_provider, encryption: sender.encryption }
 }

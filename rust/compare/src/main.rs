@@ -17,7 +17,7 @@ use compare::second::Independent;
 use compare::side::Sides;
 use compare::{
     alike, classes, copies, examples, fields, listing, pairs, places, properties, queues, requests, retired,
-    sections, sweeps, writing,
+    section_properties, sections, sweeps, writing,
 };
 use independent::generate::Random;
 
@@ -107,6 +107,7 @@ fn run(arguments: Arguments) -> io::Result<u64> {
     print(retired::run_sending(sides), &[21, 22, 23, 24, 25, 26, 27, 29]);
     print(sweeps::run(sides, &mut generator()), &[]);
     print(properties::run(&library, 500_000 * factor, &mut generator()), &SECTION);
+    print(section_properties::run(sides, 200_000 * factor, &mut generator()), &SECTION);
     print(writing::run(sides, 300_000 * factor, &mut generator()), &WRITER);
     run_places(sides, factor, &mut generator()).into_iter().for_each(|(tally, met)| print(tally, met));
     print(queues::run_reading(sides, 300_000 * factor, &mut generator()), &[1, 30, 31, 32, 33]);

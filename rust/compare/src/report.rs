@@ -39,6 +39,11 @@ pub fn require(what: &str, holds: bool) -> Check {
     }
 }
 
+/// A difference unless there is a value, which is given.
+pub fn known<T>(what: &str, value: Option<T>) -> Result<T, Difference> {
+    value.ok_or_else(|| Difference(format!("{what} is known")))
+}
+
 /// Values with their numbers and bytes in hex.
 pub fn values_in_hex(values: &impl Debug) -> String {
     shortened(format_args!("{values:02x?}"))

@@ -4,7 +4,7 @@ use std::io;
 
 use independent::{field, listing, queue, request};
 
-use crate::side::{part_of, Answer, Defaulted, FieldAt, Image, Next, Reading, Record, Refusal, Request};
+use crate::side::{part_of, Answer, FieldAt, Image, Next, Properties, Reading, Record, Refusal, Request};
 use crate::side::{Section, SectionValues, Security, Sent, Side, Source, Summary};
 
 /// The independent reader and writer.
@@ -48,8 +48,12 @@ impl Side for Independent {
     fn write_image(&self, format: [u8; 2], fixed: &[u8], text: &[u8], out: &mut [u8]) -> Answer<usize> {
         queue::write_image(format[0], format[1], fixed, text, out)
     }
-    fn defaulted<'a>(&self, request: &Request<'a>) -> Answer<Defaulted<'a>> {
-        request::defaulted(request).map(defaulted)
+    fn defaulted<'a>(&self, request: &Request<'a>) -> Answer<Properties<'a>> {
+        request::defaulted(request).map(properties_made)
+    }
+    fn properties<'a>(&self, input: &'a [u8], security_first: bool) -> Answer<Properties<'a>> {
+        let section = independent::read(input, security_first)?;
+        Ok(properties_made(independent::properties::Properties::of(&section)))
     }
     fn send(&self, request: &Request<'_>, out: &mut [u8]) -> Answer<Sent> {
         sent(request, request::send(request, out))
@@ -137,32 +141,28 @@ fn security<'a>(header: &independent::Security<'a>, section: &Section<'a>) -> Se
 
 /// A request's section of this length, and whether a SecurityHeader stands first by the independent library.
 pub fn sent(request: &Request<'_>, length: Answer<usize>) -> Answer<Sent> {
-    let (length, values) = (length?, request::defaulted(request)?);
-    Ok(Sent { length, security_first: values.security_first() })
+    let length = length?;
+    request::sent(request).map(|sent| Sent { length, ..sent })
 }
 
-/// The defaulted values by the independent library.
-pub fn defaulted(values: request::Properties<'_>) -> Defaulted<'_> {
-    Defaulted {
-        handling: [values.priority, values.trace, values.delivery, values.auditing],
-        transaction: values.transaction,
-        direct_queue: values.direct_queue,
-        split_number: values.split_number,
-        provider_name_length: values.provider_name_length,
-        sender_kind: values.sender_kind,
-        default_provider: values.default_provider,
-        encryption: values.encryption,
-        provider_type: values.provider_type,
-        class: values.class,
-        acknowledge: values.acknowledge,
-        application_tag: values.application_tag,
-        privacy_level: values.privacy_level,
-        hash_algorithm: values.hash_algorithm,
-        encryption_algorithm: values.encryption_algorithm,
-        body_type: values.body_type,
-        body_sizes: [values.body.len() as u64, values.allocation],
-        correlation_id: values.correlation_id,
-        title: values.title,
-        signature: values.signature,
+/// The properties made by the independent library.
+pub fn properties_made(found: independent::properties::Properties<'_>) -> Properties<'_> {
+    let carried = found.carried;
+    Properties {
+        handling: found.handling,
+        sender: found.sender,
+        provider_type: found.provider.map(|provider| provider.kind),
+        class: carried.class,
+        acknowledge: carried.acknowledge,
+        application_tag: carried.application_tag,
+        privacy_level: carried.privacy_level,
+        hash_algorithm: carried.hash_algorithm,
+        encryption_algorithm: carried.encryption_algorithm,
+        body_type: carried.body_type,
+        body_sizes: [carried.body.len() as u64, carried.allocation],
+        correlation_id: carried.correlation_id,
+        title: carried.title.iter().collect(),
+        title_length: carried.title.count(),
+        signature: carried.signature,
     }
 }

@@ -5,8 +5,9 @@ use std::io;
 
 pub use independent::field::FieldAt;
 pub use independent::listing::Line;
+pub use independent::properties::{Handling, Privacy, Sender};
 pub use independent::queue::Image;
-pub use independent::request::Request;
+pub use independent::request::{Request, Sent};
 pub use independent::{Part, Parts, Refusal, Section, SectionValues};
 
 use crate::report::{agree, Difference};
@@ -83,35 +84,23 @@ pub struct Reading<'a> {
     pub parts: [&'a [u8]; 8],
 }
 
-/// The defaulted values of a request: numbers, and what is kept of title and signature.
-#[derive(Debug, Clone, Copy, PartialEq, Eq)]
-pub struct Defaulted<'a> {
-    /// Priority, trace, delivery, auditing.
-    pub handling: [u32; 4],
-    /// The message belongs to a transaction.
-    pub transaction: bool,
-    /// The queue was opened by a direct format name.
-    pub direct_queue: bool,
-    /// The split number.
-    pub split_number: Option<u32>,
-    /// The name length that goes with the split number.
-    pub provider_name_length: u32,
-    /// The kind of sender identity.
-    pub sender_kind: u32,
-    /// The default provider.
-    pub default_provider: bool,
-    /// Encryption, asked for and with a key.
-    pub encryption: bool,
-    /// The provider's type.
-    pub provider_type: u32,
+/// The properties of a request or of a section; what is not known of them is none.
+#[derive(Debug, Clone, PartialEq, Eq)]
+pub struct Properties<'a> {
+    /// What no section carries.
+    pub handling: Option<Handling>,
+    /// What only a SecurityHeader carries.
+    pub sender: Option<Sender>,
+    /// The provider's type, which only provider info carries.
+    pub provider_type: Option<u32>,
     /// The message class.
     pub class: u32,
     /// Acknowledge.
     pub acknowledge: u32,
     /// The application's tag.
     pub application_tag: u32,
-    /// The request's privacy.
-    pub privacy_level: u32,
+    /// The privacy.
+    pub privacy_level: Privacy,
     /// The hash algorithm.
     pub hash_algorithm: u32,
     /// The encryption algorithm.
@@ -123,18 +112,11 @@ pub struct Defaulted<'a> {
     /// The correlation identifier.
     pub correlation_id: [u8; 20],
     /// The title as cut, without its null.
-    pub title: &'a [u16],
+    pub title: Vec<u16>,
+    /// How many units it is said to have.
+    pub title_length: usize,
     /// The signature as cut.
     pub signature: &'a [u8],
-}
-
-/// A section that was sent.
-#[derive(Debug, Clone, Copy, PartialEq, Eq)]
-pub struct Sent {
-    /// Its length.
-    pub length: usize,
-    /// Whether a SecurityHeader stands first.
-    pub security_first: bool,
 }
 
 /// A record of a day file.
@@ -196,8 +178,10 @@ pub trait Side {
     fn read_image<'a>(&self, input: &'a [u8]) -> Answer<Image<'a>>;
     /// A queue format image written: type, suffix and flags, the value's fixed bytes and its string.
     fn write_image(&self, format: [u8; 2], fixed: &[u8], text: &[u8], out: &mut [u8]) -> Answer<usize>;
-    /// The defaulted values of a request.
-    fn defaulted<'a>(&self, request: &Request<'a>) -> Answer<Defaulted<'a>>;
+    /// The defaulted properties of a request.
+    fn defaulted<'a>(&self, request: &Request<'a>) -> Answer<Properties<'a>>;
+    /// The properties of a section.
+    fn properties<'a>(&self, input: &'a [u8], security_first: bool) -> Answer<Properties<'a>>;
     /// The section of a request.
     fn send(&self, request: &Request<'_>, out: &mut [u8]) -> Answer<Sent>;
     /// The record at the first byte of the rest of a day file.

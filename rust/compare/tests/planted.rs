@@ -4,17 +4,17 @@ use std::io;
 
 use compare::library::Library;
 use compare::report::Tally;
-use compare::second::{defaulted, reading, sent, summary, Independent};
-use compare::side::{Answer, Defaulted, FieldAt, Image, Line, Next, Reading, Record, Records, Refusal};
+use compare::second::{properties_made, reading, sent, summary, Independent};
+use compare::side::{Answer, FieldAt, Image, Line, Next, Properties, Reading, Record, Records, Refusal};
 use compare::side::{Request, SectionValues, Sent, Side, Sides, Source, Summary};
 use compare::{
     alike, classes, examples, fields, listing, pairs, places, properties, queues, requests, retired,
-    sections, sweeps, writing,
+    section_properties, sections, sweeps, writing,
 };
 use independent::generate::Random;
 use independent::neighbours::{List, Neighbours};
-use independent::planted::{self, Dependence, WrongField, WrongPlace};
-use independent::planted::{WrongRetired, WrongStep, WrongVerdict, WrongYes};
+use independent::planted::{self, Dependence, WrongField, WrongKnown, WrongPlace};
+use independent::planted::{WrongRetired, WrongStep, WrongTime, WrongVerdict, WrongYes};
 
 /// The generated cases of a kind.
 const CASES: u64 = 8_000;
@@ -50,6 +50,10 @@ enum Fault {
     DependsCopied(Dependence),
     /// A proposed copy is judged otherwise.
     Proposed(WrongYes),
+    /// A request's times are others.
+    Timed(WrongTime),
+    /// A section's properties are others.
+    Known(WrongKnown),
     /// Private bits count.
     SameSummary,
     /// A label of one unit is taken for none.
@@ -220,14 +224,21 @@ impl Side for Planted {
         };
         self.written(answer, out)
     }
-    fn defaulted<'a>(&self, request: &Request<'a>) -> Answer<Defaulted<'a>> {
+    fn defaulted<'a>(&self, request: &Request<'a>) -> Answer<Properties<'a>> {
         match self.0 {
-            Fault::Defaulted => planted::defaulted(request).map(defaulted),
-            Fault::RetiredSent(wrong) => planted::defaulted_retired(wrong, request).map(defaulted),
+            Fault::Defaulted => planted::defaulted(request).map(properties_made),
+            Fault::RetiredSent(wrong) => planted::defaulted_retired(wrong, request).map(properties_made),
+            Fault::Timed(wrong) => planted::defaulted_timed(wrong, request).map(properties_made),
             Fault::Exchanged(List::Sending, pair) => {
-                planted::defaulted_exchanged(pair.at, request).map(defaulted)
+                planted::defaulted_exchanged(pair.at, request).map(properties_made)
             }
             _ => Independent.defaulted(request),
+        }
+    }
+    fn properties<'a>(&self, input: &'a [u8], security_first: bool) -> Answer<Properties<'a>> {
+        match self.0 {
+            Fault::Known(wrong) => planted::properties(wrong, input, security_first).map(properties_made),
+            _ => Independent.properties(input, security_first),
         }
     }
     fn send(&self, request: &Request<'_>, out: &mut [u8]) -> Answer<Sent> {
@@ -235,6 +246,7 @@ impl Side for Planted {
             Fault::Send => planted::send(request, out),
             Fault::ClassSent(extra) => planted::send_class(extra, request, out),
             Fault::RetiredSent(wrong) => planted::send_retired(wrong, request, out),
+            Fault::Timed(wrong) => planted::send_timed(wrong, request, out),
             Fault::Exchanged(List::Sending, pair) => planted::send_exchanged(pair.at, request, out),
             _ => independent::request::send(request, out),
         };
@@ -392,6 +404,12 @@ fn sections_swept() {
 }
 
 #[test]
+fn properties_of_sections() {
+    let faults = WrongKnown::ALL.map(Fault::Known);
+    finds(&faults, |sides| section_properties::run(sides, CASES, &mut Random::new(18)));
+}
+
+#[test]
 fn demand_3_of_one_side() {
     let run = |side: &dyn Side| properties::run(side, CASES, &mut Random::new(3));
     assert_eq!(run(&Independent).differences(), 0);
@@ -422,11 +440,32 @@ fn queue_values_written() {
     finds(&faults, |sides| queues::run_writing(sides, CASES, &mut Random::new(6)));
 }
 
+/// C-18's faults that show where requests are sent and read back.
+fn in_requests() -> Vec<Fault> {
+    use WrongKnown::{
+        AllocationAsSize, EncryptionByKey, HandlingDefaulted, HandlingZero, PrivacyThree, PrivacyUnmapped,
+        ProviderZero, SenderByIdentity, SenderZero, TitleNull,
+    };
+    let wrong = [
+        AllocationAsSize,
+        EncryptionByKey,
+        HandlingDefaulted,
+        HandlingZero,
+        PrivacyThree,
+        PrivacyUnmapped,
+        ProviderZero,
+        SenderByIdentity,
+        SenderZero,
+        TitleNull,
+    ];
+    WrongTime::ALL.map(Fault::Timed).into_iter().chain(wrong.map(Fault::Known)).collect()
+}
+
 #[test]
 fn requests_sent() {
     let faults = vec![Fault::Defaulted, Fault::Send, Fault::SentFirst, Fault::Refusal];
     let wrong = WrongStep::ALL.map(Fault::RetiredSent);
-    let faults = [faults, wrong.to_vec(), exchanges(List::Sending)].concat();
+    let faults = [faults, wrong.to_vec(), in_requests(), exchanges(List::Sending)].concat();
     finds(&faults, |sides| requests::run(sides, CASES, &mut Random::new(7)));
 }
 
@@ -491,6 +530,17 @@ fn the_same_fault_on_both_sides() {
     }
 }
 
+/// The same for times, and for what is known of a section.
+#[test]
+fn the_same_wrong_properties_on_both_sides() {
+    for fault in in_requests() {
+        tells(fault, |sides| requests::run(sides, CASES, &mut Random::new(9)));
+    }
+    for wrong in WrongKnown::ALL {
+        tells(Fault::Known(wrong), |sides| section_properties::run(sides, CASES, &mut Random::new(9)));
+    }
+}
+
 /// The same for places and the fields that they lie in.
 #[test]
 fn the_same_wrong_place_on_both_sides() {
@@ -521,5 +571,11 @@ fn examples_of_the_paper() {
     use WrongYes::{CorrelationId, InputLengthAsked, LastBodyByte, Longer, PropertiesX, RefusedBySizes};
     let proposed = [CorrelationId, InputLengthAsked, LastBodyByte, Longer, PropertiesX, RefusedBySizes];
     let proposed = proposed.map(Fault::Proposed);
-    finds(&[&[Read, WriteSection, old][..], &retired, &placed, &written, &proposed].concat(), examples::run);
+    use WrongTime::{LiveDefaulted, QueueAlways, QueueKept};
+    let timed = [LiveDefaulted, QueueAlways, QueueKept].map(Fault::Timed);
+    use WrongKnown::{HandlingZero, PrivacyThree, PrivacyTwo, ProviderZero, SenderZero, TitleNull};
+    let known =
+        [HandlingZero, PrivacyThree, PrivacyTwo, ProviderZero, SenderZero, TitleNull].map(Fault::Known);
+    let faults = [&[Read, WriteSection, old][..], &retired, &placed, &written, &proposed, &timed, &known];
+    finds(&faults.concat(), examples::run);
 }

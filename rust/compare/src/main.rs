@@ -98,9 +98,8 @@ fn run(arguments: Arguments) -> io::Result<u64> {
     };
 
     print(examples::run(sides), &[]);
-    let [sections, other_way] = sections::run(sides, 1_000_000 * factor, &mut generator());
-    print(sections, &SECTION);
-    print(other_way, &SECTION);
+    let both_ways = sections::run(sides, 1_000_000 * factor, &mut generator());
+    both_ways.into_iter().for_each(|tally| print(tally, &SECTION));
     print(classes::run(sides, &mut generator()), &[10]);
     print(pairs::run(sides, &mut generator()), &[]);
     print(retired::run_reading(sides, &mut generator()), &[]);

@@ -211,12 +211,15 @@ impl<'a> Units<'a> {
 
     /// Writes them to the start of `out`, as many as it has room for.
     pub(crate) fn put(self, out: &mut [u8]) {
-        let mut room = out.chunks_exact_mut(2);
-        self.iter().for_each(|unit| {
-            if let Some(two) = room.next() {
-                two.copy_from_slice(&unit.to_le_bytes());
+        let room = out.chunks_exact_mut(2);
+        match self {
+            Self::Given(units) => {
+                room.zip(units).for_each(|(two, unit)| two.copy_from_slice(&unit.to_le_bytes()));
             }
-        });
+            Self::Read(bytes) => {
+                room.zip(bytes.chunks_exact(2)).for_each(|(two, unit)| two.copy_from_slice(unit))
+            }
+        }
     }
 }
 

@@ -178,9 +178,9 @@ pub(crate) const SENDING: [RequestStep; 14] = [
 
 /// The values of a request, every absent one filled in.
 pub(crate) struct Values<'a> {
-    pub(crate) handling: Handling,
-    pub(crate) sender: Sender,
-    pub(crate) provider: Provider<'a>,
+    handling: Handling,
+    sender: Sender,
+    provider: Provider<'a>,
     pub(crate) carried: Carried<'a>,
 }
 

@@ -6,7 +6,7 @@ use std::collections::{BTreeMap, BTreeSet};
 
 use independent::cause::{self, Cause};
 use independent::generate::{case, day, image, image_values, request, section_values, Random};
-use independent::generate::{place_case, place_values};
+use independent::generate::{place_case, place_values, properties_case};
 use independent::listing::{ended_by, next_record, Next};
 use independent::neighbours::List;
 use independent::queue::{read_image, write_image};
@@ -222,6 +222,7 @@ fn the_same_seed_gives_the_same_cases() {
             format!("{:?}", section_values(&mut r)),
             format!("{:?}", image_values(&mut r)),
             format!("{:?}", request(&mut r)),
+            format!("{:?}", properties_case(&mut r)),
         ];
         (texts, image(&mut r), day(&mut r))
     };

@@ -1,12 +1,10 @@
 -- 01, "Send requests": the section of a request, through the section writer, and what the sender answers.
 use Prim.Native.Nat.{ℕ}
-use mathlib.Core.Bool.{Bool, false, cond}
+use mathlib.Core.Bool.{Bool, false}
 use mathlib.Core.List.{List}
-use lib.ListN.{length}
-use lib.Dec.{ltb}
 use Rattle.octets.specs.Lent.{Lent}
 use Rattle.rules.specs.Output.{writerAnswer, writerOutput}
-use Rattle.rules.specs.Refusal.{bytes, refusal}
+use Rattle.rules.specs.Refusal.{refusal}
 use Rattle.rules.specs.declared.section.Output.{Output}
 use Rattle.rules.specs.declared.section.Output.the-variants.{Refused as Output·Refused}
 use Rattle.writing.specs.Given.{Given, given}

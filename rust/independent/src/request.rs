@@ -102,7 +102,9 @@ pub fn send(request: &Request<'_>, out: &mut [u8]) -> Result<usize, Refusal> {
 
 /// The section that [`send`] writes of a request. Refuses as [`defaulted`] does.
 pub fn sent(request: &Request<'_>) -> Result<Sent, Refusal> {
-    let values = values_by(&SENDING, request, ENDLESS)?;
+    let filled_in = FilledIn::new(request, ENDLESS);
+    filled_in.passes(&SENDING)?;
+    let values = &filled_in.values;
     Ok(Sent { length: values.section_length(), security_first: values.security_first() })
 }
 
@@ -112,21 +114,9 @@ pub(crate) fn defaulted_by<'a>(
     order: &[RequestStep],
     request: &Request<'a>,
 ) -> Result<Properties<'a>, Refusal> {
-    values_by(order, request, ENDLESS).map(|values| values.properties())
-}
-
-/// The values of a request that the steps of `order` pass, with so many bytes of output lent.
-#[inline(always)]
-fn values_by<'a>(order: &[RequestStep], request: &Request<'a>, output: usize) -> Result<Values<'a>, Refusal> {
-    let filled_in = FilledIn::new(request, output);
-    if let Some(step) = first_failure(order, &filled_in) {
-        return Err(Refusal::at_start(step.answer));
-    }
-    let mut values = filled_in.values;
-    if request.transaction {
-        values.handling.delivery = 1;
-    }
-    Ok(values)
+    let filled_in = FilledIn::new(request, ENDLESS);
+    filled_in.passes(order)?;
+    Ok(filled_in.properties())
 }
 
 /// [`send`] by the steps of `order`.
@@ -136,7 +126,9 @@ pub(crate) fn send_by(
     request: &Request<'_>,
     out: &mut [u8],
 ) -> Result<usize, Refusal> {
-    let values = values_by(order, request, out.len())?;
+    let filled_in = FilledIn::new(request, out.len());
+    filled_in.passes(order)?;
+    let values = &filled_in.values;
     let mut label = [0; LABEL_BYTES_MOST];
     let mut provider_info = [0; PROVIDER_MOST];
     let label_length = values.put_label(&mut label);
@@ -211,6 +203,25 @@ impl<'r, 'a> FilledIn<'r, 'a> {
         let mut values = Values::new(request);
         values.carried.signature = cut.unwrap_or(request.signature);
         Self { request, split_fits: cut.is_some(), headers: values.headers(output), values }
+    }
+
+    /// Whether the steps of `order` pass.
+    #[inline(always)]
+    fn passes(&self, order: &[RequestStep]) -> Result<(), Refusal> {
+        first_failure(order, self).map_or(Ok(()), |step| Err(Refusal::at_start(step.answer)))
+    }
+
+    /// The properties of a request that passed, all of them known. A transaction makes delivery 1.
+    #[inline(always)]
+    fn properties(&self) -> Properties<'a> {
+        let handling = &self.values.handling;
+        let delivery = if handling.transaction { 1 } else { handling.delivery };
+        Properties {
+            handling: Some(Handling { delivery, ..*handling }),
+            sender: Some(self.values.sender),
+            provider: Some(self.values.provider),
+            carried: self.values.carried,
+        }
     }
 
     /// "Signature bytes given."
@@ -333,16 +344,6 @@ impl<'a> Values<'a> {
                 name: Units::Given(request.provider_name),
             },
             carried: carried(request),
-        }
-    }
-
-    /// A request's properties are all known.
-    fn properties(&self) -> Properties<'a> {
-        Properties {
-            handling: Some(self.handling),
-            sender: Some(self.sender),
-            provider: Some(self.provider),
-            carried: self.carried,
         }
     }
 

@@ -42,7 +42,7 @@ use Rattle.requests.proofs.Laws.Carried.{privacy-back, sender-back, title-back}
 use Rattle.requests.proofs.Laws.Flags.{securityFlags-bits}
 use Rattle.requests.proofs.Laws.Legal.{RequestPassed, identity-fits}
 use Rattle.requests.proofs.Laws.NoSecurity.{no-security}
-use Rattle.requests.proofs.Laws.Provider.{typeAndName}
+use Rattle.requests.proofs.Laws.Provider.{info-provided}
 use Rattle.requests.proofs.Laws.Text.{length-info}
 use Rattle.sending.specs.Send.{givenBy, valuesOf}
 use Rattle.sending.specs.Theorems.{Carries, Typed}
@@ -113,25 +113,24 @@ length-back q s m fields start p =
 -- type and name in provider info that is written
 type-back : (v : Request) (s name : List ℕ) → providerType v < 4294967296 → provided v s ≡ true
     → le 4 (providerInfo v s name) 0 ≡ providerType v
-unfolding providerInfo le toLe
-type-back v s name small some = rw some (le-toLe 4 (providerType v) small)
+unfolding le toLe
+type-back v s name small e = rw (info-provided v s name e) (le-toLe 4 (providerType v) small)
 
 name-back : (v : Request) (s name : List ℕ) → provided v s ≡ true → drop 4 (providerInfo v s name) ≡ unitBytes (name ++ (0 ∷ []))
-unfolding providerInfo
-name-back v s name some =
-    rw some (drop-at (toLe 4 (providerType v)) (unitBytes (name ++ (0 ∷ []))) 4 (length-toLe 4 (providerType v)))
+name-back v s name e =
+    rw (info-provided v s name e) (drop-at (toLe 4 (providerType v)) (unitBytes (name ++ (0 ∷ []))) 4 (length-toLe 4 (providerType v)))
 
--- which is so only where a SecurityHeader stands first
-first-signed : (q : SendRequest) → RequestPassed q → provided (q .values) (q .signature) ≡ true → first q ≡ true
-unfolding providerInfo
-first-signed q a some = go (first q) refl
+-- it is not empty, and so a SecurityHeader stands first
+info-some : (v : Request) (s name : List ℕ) → provided v s ≡ true → ¬ (length (providerInfo v s name) ≡ 0)
+info-some v s name e none =
+    absurd (omega (arith, none, ap length (info-provided v s name e), length-info (providerType v) name))
+
+first-provided : (q : SendRequest) → RequestPassed q → provided (q .values) (q .signature) ≡ true → first q ≡ true
+first-provided q a e = go (first q) refl
   where
     go : (secured : Bool) → first q ≡ secured → secured ≡ true
-    go true e = refl
-    go false e =
-        let info = length-info (providerType (q .values)) (q .providerName) in
-        let none = subst (λ (b : Bool). cond b (typeAndName (q .values) (q .providerName)) [] ≡ []) some (no-security q a e .providerInfo) in
-        absurd (omega (arith, info, ap length none))
+    go true f = refl
+    go false f = absurd (info-some (q .values) (q .signature) (q .providerName) e (ap length (no-security q a f .providerInfo)))
 
 provider-back : (q : SendRequest) (s : List ℕ) (h : SecurityHeader) (b : Bool) → provided (q .values) (q .signature) ≡ b
     → providerType (q .values) < 4294967296 → RequestPassed q → HeaderBack q s h
@@ -139,12 +138,11 @@ provider-back : (q : SendRequest) (s : List ℕ) (h : SecurityHeader) (b : Bool)
     ≡ cond b (ProviderType·Known (providerType (q .values))) ProviderType·NotKnown
 unfolding sectionProviderType providerInfo
 provider-back q s h true e small a header =
-    let v = q .values in
-    let info = length-info (providerType v) (q .providerName) in
-    let size = ap (λ (n : Bytes). n .0) (header .infoSize)
-    ∙ ap (λ (b : Bool). length (cond b (typeAndName v (q .providerName)) [])) e in
-    let type = header .providerType (first-signed q a e) ∙ type-back v (q .signature) (q .providerName) small e in
-    rw (ne-eqb (h .fields .«provider_info_size» .0) 0 (λ none. absurd (omega (arith, info, size, none)))) (ap ProviderType·Known type)
+    let size = ap (λ (n : Bytes). n .0) (header .infoSize) in
+    let some : ¬ (h .fields .«provider_info_size» .0 ≡ 0) =
+    λ none. info-some (q .values) (q .signature) (q .providerName) e (sym size ∙ none) in
+    let type = header .providerType (first-provided q a e) ∙ type-back (q .values) (q .signature) (q .providerName) small e in
+    rw (ne-eqb (h .fields .«provider_info_size» .0) 0 some) (ap ProviderType·Known type)
 provider-back q s h false e small a header = rw (header .infoSize, e)
 
 -- the fields that are read, by the request

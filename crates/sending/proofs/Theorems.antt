@@ -5,7 +5,7 @@ use mathlib.Core.List.{List}
 use lib.ListN.{length, drop}
 use lib.Seq.{drop-at}
 use Rattle.octets.specs.Over.{over}
-use Rattle.rules.specs.Output.{writerOutput}
+use Rattle.rules.specs.Output.{writerAnswer, writerOutput}
 use Rattle.rules.specs.Refusal.{bytes, refusal}
 use Rattle.rules.specs.declared.refusal.Checked.{Checked}
 use Rattle.rules.specs.declared.refusal.Checked.the-variants.{Passed, Refused}
@@ -17,11 +17,11 @@ use Rattle.requests.specs.Amended.{timed, withTimes}
 use Rattle.requests.specs.Carried.{carried}
 use Rattle.requests.specs.Defaults.{encryption, properties, propertiesOf, senderOf, signatureOf}
 use Rattle.requests.specs.Request.{SendRequest}
-use Rattle.requests.specs.Section.{propertiesAt, propertiesFieldsOf, providerInfo, sectionLength, securityFieldsOf, securityFirst}
+use Rattle.requests.specs.Section.{providerInfo, sectionLength, securityFirst}
 use Rattle.requests.specs.Steps.{answerOf, defaulted, requestSteps}
 use Rattle.requests.specs.declared.properties.Defaulted.the-variants.{Properties as Defaulted·Properties}
 use Rattle.requests.specs.declared.properties.Properties.{Properties}
-use Rattle.requests.proofs.Laws.Amended.{steps-amended}
+use Rattle.requests.proofs.Laws.Amended.{steps-amended, times-length}
 use Rattle.requests.proofs.Laws.Carried.{privacy-told}
 use Rattle.sending.specs.Send.{answerAfter, givenBy, sendAnswer, sendBytes, valuesOf}
 use Rattle.sending.specs.Theorems.{Sending, Typed}
@@ -48,16 +48,16 @@ section-length q p id t e =
     let placed = request-placed q id (t .title) (t .providerName) a in
     length-section (givenBy q id) (wellFormed-by q id t a .correlation) (placed .passed) ∙ placed .length
 
--- of the definitions on the way to the section only `handlingOf` looks at the times, and no other looks at that
+-- of the definitions on the way to the section only `handlingOf` looks at the times, and none of sending looks at that
 times-answer : (q : SendRequest) (queue live : ℕ) (out : List ℕ) → sendAnswer (withTimes queue live q) out ≡ sendAnswer q out
-unfolding sendAnswer answerAfter defaulted answerOf withTimes timed sectionLength propertiesAt securityFirst securityFieldsOf propertiesFieldsOf providerInfo signatureOf encryption
+unfolding sendAnswer answerAfter defaulted answerOf
 times-answer q queue live out =
     go (requestSteps (withTimes queue live q))
     ∙ ap (λ (c : Checked). answerAfter q out (answerOf (properties q) c)) (steps-amended .times q queue live)
   where
     go : (c : Checked) → answerAfter (withTimes queue live q) out (answerOf (properties (withTimes queue live q)) c)
         ≡ answerAfter q out (answerOf (properties q) c)
-    go Passed = refl
+    go Passed = ap (λ (n : ℕ). writerAnswer (refusal 0 0) n out) (times-length q queue live)
     go (Refused r) = refl
 
 times-given : (q : SendRequest) (queue live : ℕ) (id : List ℕ) → givenBy (withTimes queue live q) id ≡ givenBy q id

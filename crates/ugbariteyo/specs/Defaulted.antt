@@ -14,15 +14,15 @@ use Rattle.ugbariteyo.specs.declared.defaulted.UgbDefaulted.{UgbDefaulte
 use Rattle.ugbariteyo.specs.declared.properties.UgbProperties.{UgbProperties}
 
 -- "nothing else set": the properties of no section, each of them 0
-abbrev noProperties : UgbProperties
-noProperties = propertiesAnswer (sectionProperties noSection)
+abbrev noDefaulted : UgbProperties
+noDefaulted = propertiesAnswer (sectionProperties noSection)
 
 -- with the CorrelationID that the section would carry
 unfoldable pub answerWith : List ℕ → Defaulted → UgbDefaulted
 answerWith id (Defaulted·Properties p) =
     record { refusal = noRefusal; properties = propertiesAnswer p; «correlation_id» = id }
 answerWith id (Defaulted·Refused r) =
-    record { refusal = r; properties = noProperties; «correlation_id» = replicate 20 0 }
+    record { refusal = r; properties = noDefaulted; «correlation_id» = replicate 20 0 }
 
 unfoldable pub defaultedAnswer : SendRequest → List ℕ → UgbDefaulted
 defaultedAnswer q correlationId = answerWith (correlationOf (q .values) correlationId) (defaulted q)

@@ -20,9 +20,24 @@ behind (s ∷ ss) xs ys e = ap (cond (s .0) (refused (s .1))) (behind ss xs ys e
 abbrev from29 : SendRequest → List (Bool × ℕ)
 from29 q = (retiredRequest (q .values) (q .signature), 29) ∷ from25 q
 
+-- C-18: no step looks at the times
+pub times-length : (q : SendRequest) (queue live : ℕ) → sectionLength (withTimes queue live q) ≡ sectionLength q
+unfolding withTimes timed sectionLength propertiesAt securityFirst securityFieldsOf propertiesFieldsOf providerInfo signatureOf encryption
+times-length q queue live = refl
+
+times-upTo24 : (q : SendRequest) (queue live : ℕ) → upTo24 (withTimes queue live q) ≡ upTo24 q
+unfolding withTimes timed upTo24 outOfRange directPrivacy algorithmMissing hashMissing
+times-upTo24 q queue live = refl
+
+times-from25 : (q : SendRequest) (queue live : ℕ) → from25 (withTimes queue live q) ≡ from25 q
+unfolding withTimes timed from25 identityFails providerFails splitFails tooLarge signatureOf allocationFails
+times-from25 q queue live = rw (times-length q queue live)
+
 times : (q : SendRequest) (queue live : ℕ) → requestSteps (withTimes queue live q) ≡ requestSteps q
-unfolding withTimes timed requestSteps steps upTo24 from25 outOfRange directPrivacy algorithmMissing hashMissing retiredRequest identityFails providerFails splitFails tooLarge allocationFails sectionLength propertiesAt securityFirst securityFieldsOf propertiesFieldsOf providerInfo signatureOf encryption
-times q queue live = refl
+unfolding withTimes timed requestSteps steps retiredRequest
+times q queue live =
+    let retired = retiredRequest (q .values) (q .signature) in
+    λ i. firstFailure (times-upTo24 q queue live i ++ ((retired, 29) ∷ times-from25 q queue live i))
 
 pub steps-amended : StepsAmended
 unfolding requestSteps steps baseSteps firstFailure

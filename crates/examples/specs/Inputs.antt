@@ -41,7 +41,7 @@ unfoldable pub image : ℕ → ℕ → List ℕ
 image type byte =
     type ∷ byte ∷ 9 ∷ 9 ∷ (replicate (fixedSize type) 7 ++ cond (listed (3 ∷ 6 ∷ 8 ∷ []) type) (text 2) [])
 
--- a request with nothing but a title
+-- a request with nothing but a title, both times 0
 unfoldable pub nothingGiven : Request
 nothingGiven =
     record {
@@ -60,6 +60,8 @@ nothingGiven =
       «provider_type» = Absent;
       «split_number» = Absent;
       «provider_name_length» = 0;
+      «time_to_queue» = 0;
+      «time_to_live» = 0;
       correlation = Correlation·Absent;
       body = Body·Absent;
       transaction = false;

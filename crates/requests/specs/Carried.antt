@@ -51,12 +51,12 @@ sectionProperties s =
     }
 
 -- what of the properties of a request its section carries, where a SecurityHeader stands first, and where provider info is written
-unfoldable pub carried : (secured provided : Bool) → Properties → Properties
-carried secured provided p =
+unfoldable pub carried : (secured infoWritten : Bool) → Properties → Properties
+carried secured infoWritten p =
     record {
       handling = Handling·NotKnown;
       sender = cond secured (p .sender) Sender·NotKnown;
-      «provider_type» = cond provided (p .«provider_type») ProviderType·NotKnown;
+      «provider_type» = cond infoWritten (p .«provider_type») ProviderType·NotKnown;
       «message_class» = p .«message_class»;
       acknowledge = p .acknowledge;
       «application_tag» = p .«application_tag»;

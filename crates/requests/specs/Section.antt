@@ -41,12 +41,12 @@ abbrev pub label : List ℕ → List ℕ
 label title = labelWith (titleOf title)
 
 -- "Provider info is written only for a signature by another provider": its type, and its name with a null added
-abbrev pub provided : Request → List ℕ → Bool
-provided v signature = signed signature && not (v .«default_provider»)
+abbrev pub infoWritten : Request → List ℕ → Bool
+infoWritten v signature = signed signature && not (v .«default_provider»)
 
 unfoldable pub providerInfo : Request → List ℕ → List ℕ → List ℕ
 providerInfo v signature name =
-    cond (provided v signature) (toLe 4 (providerType v) ++ unitBytes (name ++ (0 ∷ []))) []
+    cond (infoWritten v signature) (toLe 4 (providerType v) ++ unitBytes (name ++ (0 ∷ []))) []
 
 -- "A SecurityHeader is written when identity, key, signature or certificate is not empty."
 unfoldable pub securityFirst : Request → List ℕ → List ℕ → List ℕ → List ℕ → Bool

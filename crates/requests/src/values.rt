@@ -107,6 +107,7 @@ pub fn provider_type(request: Request) -> u32
     number.value_or(0)
 }
 
+// 002 has no absent time to queue: 0 stands for it.
 fn or_largest(time: u32) -> u32
     ensures { λ r. ⌜ r ≡ orLargest time ⌝ }
 {

@@ -17,7 +17,7 @@ use Rattle.requests.specs.Amended.{withTimes}
 use Rattle.requests.specs.Carried.{carried, requestPrivacy, sectionProperties}
 use Rattle.requests.specs.Defaults.{bodyType, correlationOf, encryptionAlgorithm, hash, providerType, tag}
 use Rattle.requests.specs.Request.{SendRequest}
-use Rattle.requests.specs.Section.{first, labelWith, packetLevel, provided, providerInfo, sectionLength}
+use Rattle.requests.specs.Section.{first, infoWritten, labelWith, packetLevel, providerInfo, sectionLength}
 use Rattle.requests.specs.Steps.{defaulted}
 use Rattle.requests.specs.declared.properties.Defaulted.the-variants.{Properties as Defaulted·Properties}
 use Rattle.requests.specs.declared.properties.Properties.{Properties}
@@ -39,7 +39,7 @@ pub record Typed (q : SendRequest) (correlationId : List ℕ) : Type 0 where
 pub record Carries (q : SendRequest) (p : Properties) (correlationId s : List ℕ) (r : Section) : Type 0 where
   pub reads : read (first q) s ≡ Accepted r
   -- C-18: the properties of the section are the request's in all that it carries, and not known in the rest
-  pub properties : sectionProperties r ≡ carried (first q) (provided (q .values) (q .signature)) p
+  pub properties : sectionProperties r ≡ carried (first q) (infoWritten (q .values) (q .signature)) p
   -- CorrelationID and the parts, by content; without a SecurityHeader the four of it are empty, in the request and in what is read
   pub correlation : partOf s (r .«correlation_id») ≡ correlationOf (q .values) correlationId
   pub title : labelOf (r .summary) s ≡ labelWith (take (p .title .0) (q .title))
@@ -53,7 +53,7 @@ pub record Carries (q : SendRequest) (p : Properties) (correlationId s : List �
   pub dataPresent : first q ≡ true → DP (r .summary .security .fields) ≡ 1
   -- "provider type and name only in provider info"
   pub provider : partOf s (r .summary .security .parts .«provider_info») ≡ providerInfo (q .values) (q .signature) (q .providerName)
-  pub providerName : provided (q .values) (q .signature) ≡ true → providerNameOf (r .summary) s ≡ unitBytes (q .providerName ++ (0 ∷ []))
+  pub providerName : infoWritten (q .values) (q .signature) ≡ true → providerNameOf (r .summary) s ≡ unitBytes (q .providerName ++ (0 ∷ []))
   pub length : r .summary .parts .«section_length» ≡ bytes (sectionLength q)
 
 -- a legal request is one that gets defaulted properties p

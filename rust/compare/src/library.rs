@@ -11,9 +11,9 @@ use std::thread;
 use independent::queue::Value;
 use ugbariteyo as library;
 
-use crate::side::Summary;
-use crate::side::{Answer, FieldAt, Handling, Image, Line, Next, Part, Parts, Privacy, Properties, Reading};
-use crate::side::{Record, Records, Refusal, Request, SectionValues, Security, Sender, Sent, Side, Source};
+use crate::side::{Answer, FieldAt, Handling, Image, Line, Next, Part, Parts};
+use crate::side::{Privacy, Properties, Reading, Record, Records, Refusal, Request, SectionValues};
+use crate::side::{Security, Sender, Sent, Side, Source, Summary};
 
 /// Where the listing program lies where nothing else is said.
 const LISTING: &str = concat!(env!("CARGO_MANIFEST_DIR"), "/../../target/bin/listing");

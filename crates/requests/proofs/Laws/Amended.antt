@@ -1,4 +1,4 @@
--- C-18 and C-21 beside 01: no step looks at the times; behind 20 to 24 its step gives the answer where it fails, and where it passes 01's steps go on.
+-- C-18 and C-21 beside 01: no step looks at the times; behind 20 to 24 C-21's step gives the answer where it fails, and where it passes 01's steps go on.
 use Prim.Native.Nat.{ℕ}
 use mathlib.Core.Path.{_≡_, refl, ap}
 use mathlib.Core.Bool.{Bool, true, cond}

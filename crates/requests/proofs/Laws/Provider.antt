@@ -15,7 +15,7 @@ use Rattle.octets.proofs.Laws.Number.{length-toLe}
 use Rattle.octets.proofs.Laws.UnitBytes.{isText-ended}
 use Rattle.rules.specs.Security.{providerSize, providerText}
 use Rattle.requests.specs.Defaults.{providerType, signatureOf}
-use Rattle.requests.specs.Section.{provided, providerInfo, signed}
+use Rattle.requests.specs.Section.{infoWritten, providerInfo, signed}
 use Rattle.requests.specs.Steps.{isOne, nameFits, providerFails, splitFails, withoutZero}
 use Rattle.requests.specs.declared.request.Request.{Request}
 use Rattle.requests.proofs.Laws.Signature.{signature-none, signature-some}
@@ -73,9 +73,9 @@ info-most v s name = go (signed s && not (v .«default_provider»))
     go true = omega (arith, length-info (providerType v) name)
     go false = omega arith
 
-pub info-provided : (v : Request) (s name : List ℕ) → provided v s ≡ true → providerInfo v s name ≡ typeAndName v name
+pub info-written : (v : Request) (s name : List ℕ) → infoWritten v s ≡ true → providerInfo v s name ≡ typeAndName v name
 unfolding providerInfo
-info-provided v s name e = rw e
+info-written v s name e = rw e
 
 -- S7 and S11
 pub record Provider (de signature : ℕ) (info : List ℕ) : Type 0 where

@@ -32,7 +32,7 @@ use Rattle.requests.specs.Carried.{carried, requestPrivacy, sectionProperties, 
 use Rattle.requests.specs.Defaults.{privacy, properties, propertiesOf, providerType, senderOf, senderValues, signatureOf, titleOf}
 use Rattle.requests.specs.Request.{SendRequest}
 use Rattle.requests.specs.Section.{first, labelWith, propertiesAt as startAt, propertiesFieldsOf, sectionLength, securityFieldsOf}
-use Rattle.requests.specs.Section.{provided, providerInfo}
+use Rattle.requests.specs.Section.{infoWritten, providerInfo}
 use Rattle.requests.specs.declared.properties.Handling.the-variants.{NotKnown as Handling·NotKnown}
 use Rattle.requests.specs.declared.properties.Properties.{Properties}
 use Rattle.requests.specs.declared.properties.ProviderType.the-variants.{Known as ProviderType·Known, NotKnown as ProviderType·NotKnown}
@@ -42,7 +42,7 @@ use Rattle.requests.proofs.Laws.Carried.{privacy-back, sender-back, title-back}
 use Rattle.requests.proofs.Laws.Flags.{securityFlags-bits}
 use Rattle.requests.proofs.Laws.Legal.{RequestPassed, identity-fits}
 use Rattle.requests.proofs.Laws.NoSecurity.{no-security}
-use Rattle.requests.proofs.Laws.Provider.{info-provided}
+use Rattle.requests.proofs.Laws.Provider.{info-written}
 use Rattle.requests.proofs.Laws.Text.{length-info}
 use Rattle.sending.specs.Send.{givenBy, valuesOf}
 use Rattle.sending.specs.Theorems.{Carries, Typed}
@@ -111,28 +111,28 @@ length-back q s m fields start p =
     ap (λ (x : PropertiesParts). x .«section_length») layout ∙ rw (start, fields)
 
 -- type and name in provider info that is written
-type-back : (v : Request) (s name : List ℕ) → providerType v < 4294967296 → provided v s ≡ true
+type-back : (v : Request) (s name : List ℕ) → providerType v < 4294967296 → infoWritten v s ≡ true
     → le 4 (providerInfo v s name) 0 ≡ providerType v
 unfolding le toLe
-type-back v s name small e = rw (info-provided v s name e) (le-toLe 4 (providerType v) small)
+type-back v s name small e = rw (info-written v s name e) (le-toLe 4 (providerType v) small)
 
-name-back : (v : Request) (s name : List ℕ) → provided v s ≡ true → drop 4 (providerInfo v s name) ≡ unitBytes (name ++ (0 ∷ []))
+name-back : (v : Request) (s name : List ℕ) → infoWritten v s ≡ true → drop 4 (providerInfo v s name) ≡ unitBytes (name ++ (0 ∷ []))
 name-back v s name e =
-    rw (info-provided v s name e) (drop-at (toLe 4 (providerType v)) (unitBytes (name ++ (0 ∷ []))) 4 (length-toLe 4 (providerType v)))
+    rw (info-written v s name e) (drop-at (toLe 4 (providerType v)) (unitBytes (name ++ (0 ∷ []))) 4 (length-toLe 4 (providerType v)))
 
 -- it is not empty, and so a SecurityHeader stands first
-info-some : (v : Request) (s name : List ℕ) → provided v s ≡ true → ¬ (length (providerInfo v s name) ≡ 0)
+info-some : (v : Request) (s name : List ℕ) → infoWritten v s ≡ true → ¬ (length (providerInfo v s name) ≡ 0)
 info-some v s name e none =
-    absurd (omega (arith, none, ap length (info-provided v s name e), length-info (providerType v) name))
+    absurd (omega (arith, none, ap length (info-written v s name e), length-info (providerType v) name))
 
-first-provided : (q : SendRequest) → RequestPassed q → provided (q .values) (q .signature) ≡ true → first q ≡ true
-first-provided q a e = go (first q) refl
+first-written : (q : SendRequest) → RequestPassed q → infoWritten (q .values) (q .signature) ≡ true → first q ≡ true
+first-written q a e = go (first q) refl
   where
     go : (secured : Bool) → first q ≡ secured → secured ≡ true
     go true f = refl
     go false f = absurd (info-some (q .values) (q .signature) (q .providerName) e (ap length (no-security q a f .providerInfo)))
 
-provider-back : (q : SendRequest) (s : List ℕ) (h : SecurityHeader) (b : Bool) → provided (q .values) (q .signature) ≡ b
+provider-back : (q : SendRequest) (s : List ℕ) (h : SecurityHeader) (b : Bool) → infoWritten (q .values) (q .signature) ≡ b
     → providerType (q .values) < 4294967296 → RequestPassed q → HeaderBack q s h
     → sectionProviderType (h .fields .«provider_info_size») (h .«provider_type»)
     ≡ cond b (ProviderType·Known (providerType (q .values))) ProviderType·NotKnown
@@ -141,7 +141,7 @@ provider-back q s h true e small a header =
     let size = ap (λ (n : Bytes). n .0) (header .infoSize) in
     let some : ¬ (h .fields .«provider_info_size» .0 ≡ 0) =
     λ none. info-some (q .values) (q .signature) (q .providerName) e (sym size ∙ none) in
-    let type = header .providerType (first-provided q a e) ∙ type-back (q .values) (q .signature) (q .providerName) small e in
+    let type = header .providerType (first-written q a e) ∙ type-back (q .values) (q .signature) (q .providerName) small e in
     rw (ne-eqb (h .fields .«provider_info_size» .0) 0 some) (ap ProviderType·Known type)
 provider-back q s h false e small a header = rw (header .infoSize, e)
 
@@ -172,7 +172,7 @@ fields-back q id rest t a =
 -- the properties of the section that is read, by those of the request
 properties-back : (q : SendRequest) (id s : List ℕ) (r : Section) → Typed q id → RequestPassed q → FieldsBack q id s r
     → HeaderBack q s (r .summary .security)
-    → sectionProperties r ≡ carried (first q) (provided (q .values) (q .signature)) (properties q)
+    → sectionProperties r ≡ carried (first q) (infoWritten (q .values) (q .signature)) (properties q)
 unfolding sectionProperties carried propertiesOf propertiesFieldsOf summaryOf givenBy valuesOf
 properties-back q id s r t a b header =
     let f = b .properties in
@@ -181,7 +181,7 @@ properties-back q id s r t a b header =
     record {
       handling = Handling·NotKnown;
       sender = (ap (λ (x : Bool). sectionSender x (r .summary .security .fields)) secured ∙ header .sender) i;
-      «provider_type» = provider-back q s (r .summary .security) (provided (q .values) (q .signature)) refl (t .providerType) a header i;
+      «provider_type» = provider-back q s (r .summary .security) (infoWritten (q .values) (q .signature)) refl (t .providerType) a header i;
       «message_class» = f i .«message_class»;
       acknowledge = f i .flags;
       «application_tag» = b .written .tag i;

@@ -199,7 +199,7 @@ impl Carried {
     }
 
     /// The properties that the section has to give: "sender kind, default provider and encryption only in a
-    /// SecurityHeader; provider type only in provider info".
+    /// SecurityHeader; provider type and name only in provider info". (The name is compared with the values.)
     fn properties<'a>(&self, properties: Properties<'a>) -> Properties<'a> {
         Properties {
             handling: None,

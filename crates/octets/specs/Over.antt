@@ -1,15 +1,15 @@
--- Bytes written over an output.
+-- Bytes, or whatever a lent slice is made of, written over an output.
 use Prim.Native.Nat.{ℕ, _-_}
 use mathlib.Core.List.{List, _++_}
 use lib.ListN.{length, take, drop}
 use Rattle.octets.specs.Part.{within}
 
 -- over the output's first bytes; the bytes after them stay
-unfoldable pub over : List ℕ → List ℕ → List ℕ
+unfoldable pub over : {A : Type 0} → List A → List A → List A
 over part out = part ++ drop (length part) out
 
 -- from an offset on; the bytes before it stay too
-unfoldable pub overAt : ℕ → List ℕ → List ℕ → List ℕ
+unfoldable pub overAt : {A : Type 0} → ℕ → List A → List A → List A
 overAt at part out = take at out ++ over part (drop at out)
 
 -- over the output's first bytes, as many as both hold

@@ -50,7 +50,7 @@ module _ (start end : ℕ) (s : List ℕ) where
         ∙ getD-drop (length (take i part)) s start 0
         ∙ ap (λ (j : ℕ). getD s j 0) k
         ∙ sym (getD-take (end - start) (drop start s) i 0 h ∙ getD-drop start s i 0) in
-        ap (set now i) byte ∙ over-part i part s e (omega arith) l
+        ap (set now i) byte ∙ over-part i 0 part s e (omega arith) l
 
     -- all of them
     pub moved-all : (i : ℕ) → end - start ≤ i

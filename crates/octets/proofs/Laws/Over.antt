@@ -14,48 +14,55 @@ use lib.Seq.{drop-at, drop-append-add, drop-cons, drop-drop, drop-length, set-at
 use Rattle.octets.proofs.Laws.Part.{rest-drop}
 use Rattle.octets.specs.Over.{over, overAt, copied}
 
--- a part written where the one before it ends: both are written
-pub over-append : (at : ℕ) (p q out : List ℕ) → at ≤ length out
-    → overAt (at + length p) q (overAt at p out) ≡ overAt at (p ++ q) out
-unfolding over overAt
-over-append at p q out h =
-    let rest = drop (length p) (drop at out) in
-    let n : length (take at out ++ p) ≡ at + length p = simp (length-append, length-take-le at out h) in
-    rw (
-      ← append-assoc (take at out) p rest,
-      take-at (take at out ++ p) rest (at + length p) n,
-      drop-at (take at out ++ p) rest (at + length p) n,
-    )
-    (simp (drop-drop, length-append, append-assoc, add-assoc))
+-- whatever the output is made of
+module _ {A : Type 0} where
+  -- a part written where the one before it ends: both are written
+  pub over-append : (at : ℕ) (p q out : List A) → at ≤ length out
+      → overAt (at + length p) q (overAt at p out) ≡ overAt at (p ++ q) out
+  unfolding over overAt
+  over-append at p q out h =
+      let rest = drop (length p) (drop at out) in
+      let n : length (take at out ++ p) ≡ at + length p = simp (length-append, length-take-le at out h) in
+      rw (
+        ← append-assoc (take at out) p rest,
+        take-at (take at out ++ p) rest (at + length p) n,
+        drop-at (take at out ++ p) rest (at + length p) n,
+      )
+      (simp (drop-drop, length-append, append-assoc, add-assoc))
 
--- from the start on
-pub over-start : (p out : List ℕ) → overAt 0 p out ≡ over p out
-unfolding overAt
-over-start p out = refl
+  -- from the start on
+  pub over-start : (p out : List A) → overAt 0 p out ≡ over p out
+  unfolding overAt
+  over-start p out = refl
 
--- no byte is written
-pub over-none : (at : ℕ) (out : List ℕ) → out ≡ overAt at [] out
-unfolding over overAt
-over-none at out = sym (take-append-drop at out)
+  -- nothing is written
+  pub over-none : (at : ℕ) (out : List A) → out ≡ overAt at [] out
+  unfolding over overAt
+  over-none at out = sym (take-append-drop at out)
 
--- one byte is written: a store
-pub over-one : (at n : ℕ) (out : List ℕ) → at < length out → set out at n ≡ overAt at (n ∷ []) out
-unfolding over overAt
-over-one at n out h = rw (set-split out at n h, drop-drop, add-one)
+  -- one is written: a store
+  pub over-one : (at : ℕ) (x : A) (out : List A) → at < length out → set out at x ≡ overAt at (x ∷ []) out
+  unfolding over overAt
+  over-one at x out h = rw (set-split out at x h, drop-drop, add-one)
 
--- one byte more: a turn of a loop
-pub over-more : {now : List ℕ} (at : ℕ) (p out : List ℕ) (i byte : ℕ) → now ≡ overAt at p out → i ≡ at + length p
-    → at ≤ length out → i < length now → set now i byte ≡ overAt at (p ++ (byte ∷ [])) out
-over-more {now} at p out i byte e l h hn = over-one i byte now hn ∙ rw (e, l) (over-append at p (byte ∷ []) out h)
+  -- one more: a turn of a loop
+  pub over-more : {now : List A} (at : ℕ) (p out : List A) (i : ℕ) (x : A) → now ≡ overAt at p out → i ≡ at + length p
+      → at ≤ length out → i < length now → set now i x ≡ overAt at (p ++ (x ∷ [])) out
+  over-more {now} at p out i x e l h hn = over-one i x now hn ∙ rw (e, l) (over-append at p (x ∷ []) out h)
 
--- one byte more of a part
-pub over-part : {now : List ℕ} (i : ℕ) (part out : List ℕ) → now ≡ over (take i part) out → i < length part → i < length now
-    → set now i (getD part i 0) ≡ over (take (i + 1) part) out
-over-part i part out e h hn =
-    let before = e ∙ sym (over-start (take i part) out) in
-    let size = length-take-le i part (omega arith) in
-    over-more 0 (take i part) out i (getD part i 0) before (omega (arith, size)) (omega arith) hn
-    ∙ rw (add-one, take-suc part i 0) (over-start (take i part ++ (getD part i 0 ∷ [])) out)
+  -- one more of a part
+  pub over-part : {now : List A} (i : ℕ) (d : A) (part out : List A) → now ≡ over (take i part) out → i < length part
+      → i < length now → set now i (getD part i d) ≡ over (take (i + 1) part) out
+  over-part i d part out e h hn =
+      let before = e ∙ sym (over-start (take i part) out) in
+      let size = length-take-le i part (omega arith) in
+      over-more 0 (take i part) out i (getD part i d) before (omega (arith, size)) (omega arith) hn
+      ∙ rw (add-one, take-suc part i d) (over-start (take i part ++ (getD part i d ∷ [])) out)
+
+  -- the output stays as long as it was
+  pub length-over : (p out : List A) → length p ≤ length out → length (over p out) ≡ length out
+  unfolding over
+  length-over p out h = simp (length-append, length-drop) (omega arith)
 
 -- one byte before: a turn of a loop that goes backwards
 pub over-before : {now : List ℕ} (at : ℕ) (p out : List ℕ) (byte : ℕ) → now ≡ overAt (suc at) p out → at < length out
@@ -165,10 +172,6 @@ written-next {p} {out} at n q w a l e =
       bytes =
           e ∙ rw (w .bytes, ← over-start p out, ← m, ← over-start (p ++ q) out, ← over-append 0 p q out (omega arith), zero-add);
     }
-
-length-over : (p out : List ℕ) → length p ≤ length out → length (over p out) ≡ length out
-unfolding over
-length-over p out h = simp (length-append, length-drop) (omega arith)
 
 pub written-length : {p out : List ℕ} {end : ℕ} {now : List ℕ} → Written p out end now → end ≤ length out → length now ≡ length out
 written-length {p} {out} w h = ap length (w .bytes) ∙ length-over p out (omega (arith, w .ends))

@@ -27,7 +27,7 @@ loop-again c =
     let l = the (tie.At-loop Inv-loop μ-loop) (search) .loop in (
       omega arith,
       length-set (l .out) (l .i) (getD (now (a .s)) (l .i) 0) ∙ l .inv .1,
-      over-part (l .i) (now (a .s)) (now (a .out)) (l .inv .2) (omega arith) (omega arith),
+      over-part (l .i) 0 (now (a .s)) (now (a .out)) (l .inv .2) (omega arith) (omega arith),
     )
 
 returns : tie.Need-returns Inv-loop μ-loop

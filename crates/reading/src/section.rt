@@ -33,7 +33,7 @@ ghost use Rattle.rules.specs.Properties.{propertiesFields, propertiesParts};
 ghost use Rattle.rules.specs.Reading.{baseJudge, headerAt, judge, read, securityNumber, startAt, summarize, summaryAt};
 ghost use Rattle.rules.specs.Refusal.{limit};
 ghost use Rattle.rules.specs.Summary.{sectionOf, summaryOf, verdictsOf};
-ghost use Rattle.reading.specs.Case.{readingCase};
+ghost use Rattle.reading.specs.Case.{judgedOnce, readingCase};
 ghost use Rattle.reading.specs.Fields.{PropertiesSizes, startRead};
 
 // Where the MessagePropertiesHeader of an accepted section begins; at most one byte above the limit, on any input.
@@ -87,11 +87,11 @@ pub fn base_judge(s: &[u8], security_first: bool) -> Refusal
     }
 }
 
-// The refusal, its place that of the field that failed.
-pub fn judge(s: &[u8], security_first: bool) -> Refusal
+// The refusal of what was judged so, its place that of the field that failed.
+fn placed(s: &[u8], security_first: bool, judged: Refusal) -> Refusal
+    requires { ⌜ judged ≡ baseJudge «security_first» (now s) ⌝ }
     ensures { λ r. ⌜ r ≡ judge «security_first» (now (s .entry)) ⌝ }
 {
-    let judged = base_judge(s, security_first);
     let at = judged.place;
     let security = security_fields(s);
     let label = label_at(s, properties_fields(s, at), at);
@@ -103,6 +103,31 @@ pub fn judge(s: &[u8], security_first: bool) -> Refusal
         provider_info(s, security),
         label,
     )
+}
+
+// The refusal, its place that of the field that failed.
+pub fn judge(s: &[u8], security_first: bool) -> Refusal
+    ensures { λ r. ⌜ r ≡ judge «security_first» (now (s .entry)) ⌝ }
+{
+    placed(s, security_first, base_judge(s, security_first))
+}
+
+// Where the MessagePropertiesHeader of a section begins that passed every step; or the refusal.
+pub enum Judged {
+    Passed(Bytes),
+    Refused(Refusal),
+}
+
+// Each step is made once, for a refused section too.
+pub fn judge_once(s: &[u8], security_first: bool) -> Judged
+    ensures { λ r. ⌜ r ≡ judgedOnce «security_first» (now (s .entry)) ⌝ }
+{
+    let judged = base_judge(s, security_first);
+    let start = judged.place;
+    if judged.number != refusal::PASSED {
+        return Judged::Refused(placed(s, security_first, judged));
+    }
+    Judged::Passed(start)
 }
 
 pub(crate) fn header_at(s: &[u8], security_first: bool) -> SecurityHeader

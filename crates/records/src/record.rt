@@ -5,11 +5,9 @@ use crate::head::next_head;
 use octets::count::Bytes;
 use octets::count::Units;
 use reading::properties::properties_fields;
-use reading::section::base_judge;
-use reading::section::judge;
-use reading::section::properties_start;
+use reading::section::Judged;
+use reading::section::judge_once;
 use rules::properties::section_end;
-use rules::refusal;
 use rules::refusal::Refusal;
 ghost use mathlib.Core.Path.{_≡_};
 ghost use Rattle.rules.specs.Reading.{summarize};
@@ -47,21 +45,22 @@ pub enum Next {
 fn answer_of(section: &[u8], security_first: bool) -> Answer
     ensures { λ r. ⌜ r ≡ answerOf (summarize «security_first» (now (section .entry))) ⌝ }
 {
-    if base_judge(section, security_first).number != refusal::PASSED {
-        return Answer::Refused(judge(section, security_first));
+    match judge_once(section, security_first) {
+        Judged::Refused(refusal) => Answer::Refused(refusal),
+        Judged::Passed(at) => {
+            let fields = properties_fields(section, at);
+            let label_length = fields.label_length;
+            let extension_size = fields.extension_size;
+            let message_size = fields.message_size;
+            Answer::Accepted(Line {
+                message_class: fields.message_class,
+                label_length,
+                extension_size,
+                message_size,
+                section_length: section_end(fields, at),
+            })
+        }
     }
-    let at = properties_start(section, security_first);
-    let fields = properties_fields(section, at);
-    let label_length = fields.label_length;
-    let extension_size = fields.extension_size;
-    let message_size = fields.message_size;
-    Answer::Accepted(Line {
-        message_class: fields.message_class,
-        label_length,
-        extension_size,
-        message_size,
-        section_length: section_end(fields, at),
-    })
 }
 
 // The record at the first byte of `s`, the rest of the file.

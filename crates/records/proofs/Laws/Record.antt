@@ -1,5 +1,5 @@
--- A record that is found lies in what is left of the file, and has at least its head.
-use Prim.Native.Nat.{ℕ, _≤_}
+-- A record that is found lies in what is left of the file, has at least its head, and no more than a longest section behind it.
+use Prim.Native.Nat.{ℕ, _+_, _≤_}
 use mathlib.Core.Path.{_≡_, refl, subst}
 use mathlib.Core.List.{List}
 use native.Mathlib.Omega.{arith}
@@ -16,7 +16,7 @@ use Rattle.records.proofs.Laws.Head.{head-fits}
 abbrev Fits : List ℕ → Next → Type 0
 Fits s End = Unit {0}
 Fits s Stop = Unit {0}
-Fits s (Found r) = (8 ≤ r .size .0) × (r .size .0 ≤ length s)
+Fits s (Found r) = (8 ≤ r .size .0) × (r .size .0 ≤ length s) × (r .size .0 ≤ 8 + 32768)
 
 fits : (s : List ℕ) → Fits s (nextRecord s)
 unfolding nextRecord recordBehind
@@ -25,7 +25,8 @@ fits s = go (nextHead s) refl
     go : (n : NextHead) → nextHead s ≡ n → Fits s (recordBehind s n)
     go NextHead·End e = tt
     go NextHead·Stop e = tt
-    go (NextHead·Found h) e = let f = head-fits s h e .input in (omega arith, omega arith)
+    go (NextHead·Found h) e = let f = head-fits s h e in (omega arith, omega (arith, f .input), omega (arith, f .small))
 
-pub found-fits : (s : List ℕ) (r : Record) → nextRecord s ≡ Found r → (8 ≤ r .size .0) × (r .size .0 ≤ length s)
+pub found-fits : (s : List ℕ) (r : Record) → nextRecord s ≡ Found r
+    → (8 ≤ r .size .0) × (r .size .0 ≤ length s) × (r .size .0 ≤ 8 + 32768)
 found-fits s r e = subst (Fits s) e (fits s)

@@ -1,36 +1,7 @@
--- The header whose step has failed, and the place in it.
-use Prim.Native.Nat.{ℕ}
-use denote.Ref.{now}
-use mathlib.Core.Path.{_≡_, ap₂, _∙_}
-use mathlib.Core.List.{List}
+-- The place is found of what was judged.
 use borrow.Author.Needs.{needs}
-use Rattle.octets.proofs.Laws.Steps.{the}
-use Rattle.rules.specs.Place.{refusalAt}
-use Rattle.reading.proofs.Laws.Located.{place-small, read-refused}
 use Rattle.reading.proofs.section.judge.Statement.{statement}
 use Rattle.reading.proofs.section.judge.Tie as tie
 
-returns : tie.Need-returns
-returns c =
-    let a = the tie.Start (search) .args in
-    let judged = the tie.After-base-judge (search) .base-judge in
-    let r = judged .result in
-    let fields = the tie.After-security-fields (search) .security-fields in
-    let given = ap₂ (λ (i l : List ℕ). refusalAt (a .security-first) (fields .result) i l (r .number) (r .place .0))
-    (the tie.After-provider-info (search) .provider-info .ensures) (the tie.After-label-at (search) .label-at .ensures) in
-    c .section-refusal .ensures
-    ∙ given
-    ∙ read-refused (a .security-first) (now (a .s)) r (judged .ensures) (fields .result) _ (fields .ensures .0)
-    (the tie.After-properties-fields (search) .properties-fields .ensures .0)
-
 pub judge-spec : {M : Type 1} → statement M
-judge-spec =
-    tie.close
-    (tie.spec
-    (λ c κs. search needs)
-    (λ c κs. search needs)
-    (λ c κs. search needs)
-    (λ c κs. place-small _ _ _ (the tie.After-base-judge (search) .base-judge .ensures))
-    (λ c κs. search needs)
-    (λ c κs. search needs)
-    returns)
+judge-spec = tie.close (tie.spec (λ c κs. search needs) (λ c κs. c .base-judge .ensures) (λ c. c .placed .ensures))

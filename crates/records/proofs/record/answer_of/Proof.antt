@@ -1,16 +1,14 @@
 -- The refusal picks the case; past it the fields read are the summary's.
 use Prim.Native.Nat.{ℕ}
 use denote.Ref.{now}
-use mathlib.Core.Bool.{Bool}
-use mathlib.Core.List.{List}
-use mathlib.Core.Path.{_≡_, ap₂}
+use mathlib.Core.Path.{sym, ap₂, _∙_}
 use Rattle.octets.proofs.Laws.Steps.{the}
-use Rattle.rules.specs.Reading.{judge, summaryAt}
+use Rattle.rules.specs.Reading.{summaryAt}
 use Rattle.rules.specs.Refusal.{bytes}
 use Rattle.rules.specs.Summary.{summaryOf}
 use Rattle.rules.specs.declared.properties.PropertiesFields.{PropertiesFields}
 use Rattle.rules.proofs.Laws.Accepted.{summarize-passed}
-use Rattle.reading.proofs.Laws.Passed.{end-told, fields-told, none-told, refused-told}
+use Rattle.reading.proofs.Laws.Passed.{end-told, fields-told, once-told}
 use borrow.Author.Needs.{needs}
 use Rattle.records.specs.Record.{answerOf}
 use Rattle.records.proofs.record.answer_of.Statement.{statement}
@@ -32,38 +30,31 @@ lineOf f size =
 
 returns : tie.Need-returns
 unfolding answerOf
-returns c = rw (refused-told _ _ (the tie.After-base-judge (search) .base-judge .ensures) (the tie.Then1 (search) .if1 .taken) (c .judge .ensures))
-
-first : tie.Else1 → Bool
-first c = the tie.Start (search) .args .security-first
-
-input : tie.Else1 → List ℕ
-input c = now (the tie.Start (search) .args .section)
-
-none : (c : tie.Else1) → judge (first c) (input c) .number ≡ 0
-unfolding first input
-none c = none-told _ _ (the tie.After-base-judge (search) .base-judge .ensures) (c .if1 .left)
+returns c =
+    let judged = the tie.After-judge-once (search) .judge-once .ensures in
+    rw (once-told _ _ (sym (the tie.After-refusal (search) .refusal .given .1) ∙ judged))
 
 returns-2 : tie.Need-returns-2
-unfolding first input answerOf summaryAt summaryOf
+unfolding answerOf summaryAt summaryOf
 returns-2 c =
-    let s = input (search) in
-    let first = first (search) in
-    let passed = none (search) in
-    let start = the tie.After-properties-start (search) .properties-start .ensures in
+    let a = the tie.Start (search) .args in
+    let s = now (a .section) in
+    let first = a .security-first in
+    let judged = the tie.After-judge-once (search) .judge-once .ensures in
+    let told = once-told first s (sym (the tie.After-at (search) .at .given .1) ∙ judged) in
     let read = the tie.After-properties-fields (search) .properties-fields .ensures .0 in
-    let fields = fields-told first s passed start read in
-    let end = end-told first s passed start read (c .section-end .ensures) in
-    rw (summarize-passed first s passed) (ap₂ lineOf fields end)
+    let fields = fields-told first s (told .0) (told .1) read in
+    let end = end-told first s (told .0) (told .1) read (the tie.After-section-end (search) .section-end .ensures) in
+    rw (summarize-passed first s (told .0)) (ap₂ lineOf fields end)
 
 pub answer-of-spec : {M : Type 1} → statement M
 answer-of-spec =
     tie.close
     (tie.spec
     (λ c κs. search needs)
+    (λ c. search needs)
+    (λ c. search needs)
+    (λ c κs. search needs)
     (λ c κs. search needs)
     returns
-    (λ c κs. search needs)
-    (λ c κs. search needs)
-    (λ c κs. search needs)
     returns-2)

@@ -1,3 +1,4 @@
+pub mod Days
 pub mod Examples
 pub mod Inputs
 pub mod Listings

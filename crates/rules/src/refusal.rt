@@ -42,6 +42,10 @@ pub const LABEL: u32 = 12;
 
 pub const OUTPUT_SHORT: u32 = 13;
 
+pub const BAD_RECORD: u32 = 15;
+
+pub const TOO_MANY_RECORDS: u32 = 16;
+
 pub const VALUE_OUT_OF_RANGE: u32 = 20;
 
 pub const PRIVACY: u32 = 21;

@@ -44,10 +44,10 @@ use Rattle.ugbariteyo.specs.Section.{readingAnswer}
 use Rattle.ugbariteyo.specs.Send.{sentAnswer}
 
 module _ {A B : Type 0} (accepted : B → A) where
-  told-accepted : (v : B) → Told accepted (accepted v) 0 v
+  pub told-accepted : (v : B) → Told accepted (accepted v) 0 v
   told-accepted v = record { zero-accepted = λ e. refl; accepted-zero = λ w e. refl }
 
-  told-refused : (own : A) (n : ℕ) (v : B) → ¬ (n ≡ 0) → ((w : B) → ¬ (own ≡ accepted w)) → Told accepted own n v
+  pub told-refused : (own : A) (n : ℕ) (v : B) → ¬ (n ≡ 0) → ((w : B) → ¬ (own ≡ accepted w)) → Told accepted own n v
   told-refused own n v some other =
       record { zero-accepted = λ e. absurd (some e); accepted-zero = λ w e. absurd (other w e) }
 

@@ -13,8 +13,9 @@
  * input.
  *
  * An answer holds a refusal. Its number is 0 (UGB_ACCEPTED) where nothing is refused, and only there; else every other
- * value of the answer is 0 or false, and no byte of the output was written. Bytes of an output behind what was written
- * stay as they were. Unnamed bytes between the members of a struct hold anything: compare members, not whole structs.
+ * value of the answer is 0 or false, and no byte of the output was written, but for the slots that ugb_read_day fills
+ * before a bad record (15). Bytes of an output behind what was written stay as they were. Unnamed bytes between the
+ * members of a struct hold anything: compare members, not whole structs.
  *
  *     ugb_reading answer = ugb_read(bytes, length, true);
  *     if (answer.refusal.number != UGB_ACCEPTED) {
@@ -39,9 +40,9 @@ extern "C" {
 #endif
 
 #define UGB_VERSION_MAJOR 2
-#define UGB_VERSION_MINOR 0
+#define UGB_VERSION_MINOR 1
 #define UGB_VERSION_PATCH 0
-#define UGB_VERSION "2.0.0"
+#define UGB_VERSION "2.1.0"
 
 /* 01: a section has at most so many bytes. */
 #define UGB_LIMIT 4194304
@@ -49,8 +50,9 @@ extern "C" {
 /* ---- Refusals */
 
 /* Every refusal: its name behind UGB_, its number, and the rule that was broken. A section is read with 1 to 12 and
- * written with 28, 2 to 4 and 6 to 12; a request is refused with 8, 10, 11 and 20 to 29; an image is read with 1 (under
- * 4 bytes) and 30 to 33, and written with 30 to 33; 13 comes last in every call that writes. */
+ * written with 28, 2 to 4 and 6 to 12; a day's file is read with 16 and 15; a request is refused with 8, 10, 11 and 20
+ * to 29; an image is read with 1 (under 4 bytes) and 30 to 33, and written with 30 to 33; 13 comes last in every call
+ * that writes bytes. */
 #define UGB_REFUSALS(X)                                                                                                \
     X(INPUT_SHORT, 1, "input ends before the section does")                                                            \
     X(SENDER_KIND, 2, "ST above 2")                                                                                    \
@@ -65,6 +67,8 @@ extern "C" {
     X(ALLOCATION, 11, "AllocationBodySize below MessageSize or above 4,194,304")                                       \
     X(LABEL, 12, "label in which not only the last unit is zero")                                                      \
     X(OUTPUT_SHORT, 13, "output too short")                                                                            \
+    X(BAD_RECORD, 15, "wrong or cut record head, or cut section")                                                      \
+    X(TOO_MANY_RECORDS, 16, "more records than slots, or than 256")                                                    \
     X(VALUE_OUT_OF_RANGE, 20,                                                                                          \
       "priority above 7, trace or delivery above 1, acknowledge above 15, or auditing above 3")                        \
     X(PRIVACY, 21, "privacy not 0, 1 or 2")                                                                            \
@@ -114,12 +118,13 @@ static inline const char *ugb_refusal_text(uint32_t number)
  *     10     p + 2, MessageClass
  *     11     p + 36, AllocationBodySize
  *     12     the label's first unit that breaks the rule
+ *     15     no offset: the record's number in the file, from 0
  *
  * By the rule only the last unit is zero. The first zero unit before the last one breaks it; where there is none, the
  * last one does. */
 typedef struct ugb_refusal {
     uint32_t number; /* one of the numbers above */
-    size_t place;    /* as above; 0 for 13, 28, requests and images */
+    size_t place;    /* as above; 0 for 13, 16, 28, requests and images */
 } ugb_refusal;
 
 /* ---- Bytes, units and parts */
@@ -689,6 +694,41 @@ typedef struct ugb_record {
  * Of a file in portions, have 8 + 32,768 bytes or all that is left before each call: else a record that is cut by the
  * portion counts as UGB_STOP. */
 ugb_record ugb_next_record(const uint8_t *s, size_t s_length);
+
+/* One call of ugb_read_day reads at most so many records, into however many slots. */
+#define UGB_DAY_MOST 256
+
+/* What ugb_next_record says of a record's section. In a slot that was filled number or section_length is not 0, so a
+ * table that was all zero shows which slots were filled. */
+typedef struct ugb_day_slot {
+    ugb_refusal refusal;   /* as ugb_read refuses the section, the place counted from the section's first byte */
+    size_t message_class;  /* MessageClass; this and all below is zero where the section is refused */
+    size_t label_length;   /* LabelLength, in 16-bit units */
+    size_t extension_size; /* ExtensionSize, in bytes */
+    size_t message_size;   /* MessageSize, in bytes */
+    size_t section_length; /* the section's own length in bytes, 56 or more where it is accepted */
+} ugb_day_slot;
+
+typedef struct ugb_day {
+    ugb_refusal refusal; /* 0, 15 or 16 */
+    size_t records;      /* how many records the file has: so many slots were filled; 0 where refused */
+} ugb_day;
+
+/* Reads a whole day's file into a table, its first record into the first slot.
+ *
+ *     ugb_day_slot table[UGB_DAY_MOST];
+ *     ugb_day day = ugb_read_day(file, file_length, table, UGB_DAY_MOST);
+ *     size_t filled = day.refusal.number == UGB_BAD_RECORD ? day.refusal.place : day.records;
+ *     for (size_t number = 0; number < filled; number++)
+ *         ..
+ *
+ * Whole records are counted up to the file's end or the first bad one, at which ugb_next_record says UGB_STOP. More of
+ * them than slots, or than 256, are refused with 16, and no slot is filled. Else a bad record is refused with 15; the
+ * place is its number, from 0, and the slots before it are filled. A section that is refused is no bad record but an
+ * answer in its slot. Slots behind the last answer stay as they were.
+ *
+ * Of a file with more than 257 * 32,776 bytes that many are enough to tell. */
+ugb_day ugb_read_day(const uint8_t *file, size_t file_length, ugb_day_slot *table, size_t slots);
 
 #ifdef __cplusplus
 }

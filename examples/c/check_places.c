@@ -23,6 +23,7 @@ static void refused_at(const uint8_t *s, size_t length, bool security_first, ugb
     static uint8_t file[8 + LENGTH];
     const uint8_t head[8] = {0x57, 0x52, security_first, 0, (uint8_t)length};
     char found[UGB_WORDS];
+    ugb_day_slot slot;
     same_refusal(ugb_read(s, length, security_first).refusal, refusal.number, refusal.place);
     pattern();
     refused(ugb_support_copy(s, length, security_first, out, sizeof out), refusal.number, refusal.place);
@@ -31,6 +32,8 @@ static void refused_at(const uint8_t *s, size_t length, bool security_first, ugb
     ugb_record record = ugb_next_record(file, sizeof head + length);
     SAME(record.next, UGB_FOUND);
     same_refusal(record.refusal, refusal.number, refusal.place);
+    SAME(ugb_read_day(file, sizeof head + length, &slot, 1).records, 1);
+    same_refusal(slot.refusal, refusal.number, refusal.place);
     ugb_field_words(ugb_refused_field(s, length, security_first, record.refusal), found, sizeof found);
     SAME(strcmp(found, words), 0);
 }

@@ -56,6 +56,8 @@
 
 #define RECORD(X, at) X(at.size) X(at.security_first) PART(X, at.section) RECORD_VALUES(X, at)
 
+#define DAY(X, at) X(at.records)
+
 #define SIZE(member) +sizeof(member)
 #define WHOLE(list, type, unnamed)                                                                                     \
     static inline void whole_##type(type at)                                                                           \
@@ -69,3 +71,5 @@ WHOLE(PROPERTIES, ugb_properties, 23)
 WHOLE(IMAGE, ugb_image_read, sizeof(ugb_refusal) + 6)
 WHOLE(SENT, ugb_sent, sizeof(ugb_refusal) + 7)
 WHOLE(RECORD, ugb_record, sizeof(uint32_t) + sizeof(ugb_refusal) + 13)
+WHOLE(RECORD_VALUES, ugb_day_slot, sizeof(ugb_refusal))
+WHOLE(DAY, ugb_day, sizeof(ugb_refusal))

@@ -9,7 +9,10 @@ use std::error::Error;
 use std::fs;
 use std::io::{self, BufWriter, Write};
 
-use ugbariteyo::records;
+use ugbariteyo::{records, Line, Refusal};
+
+/// The line before those of the records.
+pub const HEAD: &str = "no answer class label ext body total";
 
 fn main() -> Result<(), Box<dyn Error>> {
     let args: Vec<String> = env::args().skip(1).collect();
@@ -23,26 +26,30 @@ fn main() -> Result<(), Box<dyn Error>> {
 
 /// Writes the lines of a day's file to `out`.
 pub fn list(file: &[u8], out: &mut impl Write) -> io::Result<()> {
-    writeln!(out, "no answer class label ext body total")?;
+    writeln!(out, "{HEAD}")?;
     let mut number = 0;
     for record in records(file) {
-        let answer = match record {
-            Ok(record) => record.answer,
+        match record {
+            Ok(record) => list_record(number, record.answer, out)?,
             Err(stop) => return writeln!(out, "stop {}", stop.number),
-        };
-        match answer {
-            Ok(line) => writeln!(
-                out,
-                "{number} ok {} {} {} {} {}",
-                line.message_class,
-                line.label_length.0,
-                line.extension_size,
-                line.message_size,
-                line.section_length
-            )?,
-            Err(refusal) => writeln!(out, "{number} refused {} {}", refusal.number, refusal.place)?,
         }
         number += 1;
     }
     writeln!(out, "end {number}")
+}
+
+/// Writes the line of a record to `out`.
+pub fn list_record(number: usize, answer: Result<Line, Refusal>, out: &mut impl Write) -> io::Result<()> {
+    match answer {
+        Ok(line) => writeln!(
+            out,
+            "{number} ok {} {} {} {} {}",
+            line.message_class,
+            line.label_length.0,
+            line.extension_size,
+            line.message_size,
+            line.section_length
+        ),
+        Err(refusal) => writeln!(out, "{number} refused {} {}", refusal.number, refusal.place),
+    }
 }

@@ -59,6 +59,7 @@ impl<T> Lent<T> for &[T] {
     }
 }
 
+mod day;
 mod field;
 mod properties;
 mod queue;
@@ -67,6 +68,7 @@ mod request;
 mod section;
 mod write;
 
+pub(crate) use day::read_day;
 pub(crate) use field::{refused_field, Field};
 pub(crate) use properties::{properties_of, Handling, Privacy, Properties, Sender};
 pub(crate) use queue::{read_image, write_image, QueueFormat};
@@ -79,7 +81,7 @@ pub(crate) use section::{
 pub(crate) use write::write_section;
 
 #[repr(C)]
-#[derive(Clone, Copy)]
+#[derive(Clone, Copy, PartialEq, Eq, Hash, Default)]
 pub(crate) struct Refusal {
     pub number: u32,
     pub place: usize,

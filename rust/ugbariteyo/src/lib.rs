@@ -2,8 +2,8 @@
 //! queue formats, send requests and the records of a day's file: a safe interface to the proved library.
 //!
 //! Every call answers for every input: the answer, or a [`Refusal`] with its number and place. Nothing has to
-//! be checked beforehand, no call panics, a refusal leaves a lent output as it stood, and what is read is
-//! borrowed from the input.
+//! be checked beforehand, no call panics, a refusal leaves a lent output as it stood (but for the slots that
+//! [`read_day`] fills before a bad record), and what is read is borrowed from the input.
 //!
 //! The functions behind this crate are proved to answer as the exact rules say. What is not proved is this
 //! crate itself: it lends the slices, and takes the parts out of the input by their places.
@@ -115,6 +115,20 @@
 //! # Ok::<(), Box<dyn std::error::Error>>(())
 //! ```
 //!
+//! # A day's file in a single call
+//!
+//! [`read_day`] fills a lent table, a slot a record, of a file with at most [`DAY_MOST`] records.
+//!
+//! ```no_run
+//! use ugbariteyo::{read_day, DaySlot, DAY_MOST};
+//!
+//! let mut table = [DaySlot::default(); DAY_MOST];
+//! let records = read_day(&std::fs::read("day.bin")?, &mut table)?;
+//! let accepted = table[..records].iter().filter_map(DaySlot::answer).flatten();
+//! println!("{} of {records} sections are accepted", accepted.count());
+//! # Ok::<(), Box<dyn std::error::Error>>(())
+//! ```
+//!
 //! # Building
 //!
 //! The proved library is `libugbariteyo.a`, for x86-64 Linux. `build.rs` links it from the directory in the variable
@@ -127,6 +141,7 @@
 #![warn(clippy::missing_errors_doc)]
 
 mod copy;
+mod day;
 mod ffi;
 mod field;
 mod flags;
@@ -143,6 +158,7 @@ mod text;
 mod write;
 
 pub use copy::{is_support_copy, support_copy, support_copy_vec};
+pub use day::{read_day, DaySlot, DAY_MOST};
 pub use field::{field_at, Field, FieldAt};
 pub use flags::{PropertiesFlags, SecurityFlags};
 pub use part::Part;

@@ -20,15 +20,16 @@ use std::fmt;
 /// | 10 | p + 2, MessageClass |
 /// | 11 | p + 36, AllocationBodySize |
 /// | 12 | the label's first unit that breaks the rule |
+/// | 15 | no offset: the record's number in the file, from 0 |
 ///
 /// By the rule only the last unit is zero. The first zero unit before the last one breaks it; where there is none,
 /// the last one does. [`field`](Self::field) says which field lies there.
 #[derive(Debug, Clone, Copy, PartialEq, Eq, Hash)]
 pub struct Refusal {
-    /// The number of the refusal: 1 to 13 or 20 to 33.
+    /// The number of the refusal: 1 to 13, 15, 16 or 20 to 33.
     pub number: u32,
-    /// Where in the input, or in the section that would be written; 0 for 13 and 28, for requests and for queue
-    /// formats.
+    /// Where in the input, or in the section that would be written; for 15 which record; 0 for 13, 16 and 28, for
+    /// requests and for queue formats.
     pub place: usize,
 }
 
@@ -91,6 +92,8 @@ kinds! {
     Allocation = 11, "AllocationBodySize below MessageSize or above 4,194,304";
     Label = 12, "label in which not only the last unit is zero";
     OutputShort = 13, "output too short";
+    BadRecord = 15, "wrong or cut record head, or cut section";
+    TooManyRecords = 16, "more records than slots, or than 256";
     ValueOutOfRange = 20, "priority above 7, trace or delivery above 1, acknowledge above 15, or auditing above 3";
     Privacy = 21, "privacy not 0, 1 or 2";
     PrivacyOnADirectQueue = 22, "direct queue with privacy not 0";

@@ -1,8 +1,9 @@
-//! Where reading, copying and the reading of a record refuse, and the fields that lie there. (The section writer's
+//! Where reading, copying and the reading of records refuse, and the fields that lie there. (The section writer's
 //! places are among the examples.)
 
 use ugbariteyo::{
-    field_at, read, records, support_copy, text_bytes, Field, FieldAt, First, Kind, Refusal, LIMIT,
+    field_at, read, read_day, records, support_copy, text_bytes, DaySlot, Field, FieldAt, First, Kind,
+    Refusal, LIMIT,
 };
 
 use First::{PropertiesHeader, SecurityHeader};
@@ -31,6 +32,8 @@ fn refused_at(input: &[u8], first: First, kind: Kind, place: usize, called: &str
     let day = [record(0, &[0; 56]), record(first as u8, input)].concat();
     let second = records(&day).nth(1).unwrap().unwrap();
     assert_eq!(second.answer, Err(refusal));
+    let mut table = [DaySlot::default(); 2];
+    assert_eq!((read_day(&day, &mut table), table[1].answer()), (Ok(2), Some(Err(refusal))));
     assert_eq!(words(refusal.field(second.section, second.first)), called);
 }
 
@@ -231,6 +234,10 @@ fn headers_and_their_fields() {
         assert_eq!(field(SecurityHeader, number, 0), "SecurityHeader Flags");
         assert_eq!(field(SecurityHeader, number, P), "MessagePropertiesHeader Flags");
         assert_eq!(field(PropertiesHeader, number, 1), "LabelLength");
+    }
+    for number in [13, 15, 16, 20, 33] {
+        assert_eq!(field(SecurityHeader, number, 0), "no field");
+        assert_eq!(field(PropertiesHeader, number, 1), "no field");
     }
     let numbers: Vec<u32> = Field::ALL.iter().map(|&field| field as u32).collect();
     assert_eq!(numbers, (1..=35).collect::<Vec<_>>());

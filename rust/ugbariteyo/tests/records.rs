@@ -1,44 +1,23 @@
 //! The records of a day's file: those of the sample and of the listing program's own test, listed as that program lists
 //! them; what stops; and what a record holds.
 
-use std::fs;
-
 use ugbariteyo::{next_record, read, records, First, Next, Refusal, Stop};
 
 #[allow(dead_code)] // its main
 #[path = "../examples/list_day.rs"]
 mod list_day;
 
+#[path = "given/listing.rs"]
+mod given_listing;
 #[path = "given/record.rs"]
 mod given_record;
 
+use given_listing::lists_as_the_listing_program;
 use given_record::record;
-
-/// A file of the repository.
-fn file(name: &str) -> Vec<u8> {
-    fs::read(format!("{}/../../{name}", env!("CARGO_MANIFEST_DIR"))).expect("the file is in the repository")
-}
-
-fn listed(file: &[u8]) -> String {
-    let mut lines = Vec::new();
-    list_day::list(file, &mut lines).expect("a vector takes every line");
-    String::from_utf8(lines).expect("letters and digits")
-}
 
 #[test]
 fn the_example_lists_as_the_listing_program() {
-    assert_eq!(listed(&file("crates/listing/stdin")).as_bytes(), file("crates/listing/stdout"));
-    let sample = "\
-no answer class label ext body total\n\
-0 ok 0 9 5 8 156\n\
-1 ok 0 8 0 2 76\n\
-2 ok 32777 0 0 0 56\n\
-3 refused 9 1\n\
-4 refused 10 70\n\
-5 ok 0 14 0 4 88\n\
-end 6\n";
-    assert_eq!(listed(&file("samples/day.bin")), sample);
-    assert_eq!(listed(&[]), "no answer class label ext body total\nend 0\n");
+    lists_as_the_listing_program(list_day::list);
 }
 
 #[test]

@@ -9,7 +9,7 @@
 //!   [`is_support_copy`]: whether a copy is right that someone else made.
 //! - [`mod@write`]: sections written from values and parts.
 //! - [`queue`]: queue format images, [`request`]: send requests, [`properties`]: those of a request or of
-//!   a section, [`listing`]: day files, [`copies`]: their copies.
+//!   a section, [`listing`]: day files, [`copies`]: their copies, [`day`]: one read in a single call.
 //! - [`field`]: the field or part that a place lies in; [`may_differ`]: the bits that a refusal does not
 //!   depend on; [`copy_by_sizes`]: what a refused section's copy would be.
 //! - [`generate`]: cases made at random for a comparison; [`neighbours`]: what steps a case breaks
@@ -22,6 +22,7 @@ mod bytes;
 pub mod cause;
 pub mod copies;
 mod copy;
+pub mod day;
 mod differ;
 pub mod field;
 pub mod generate;

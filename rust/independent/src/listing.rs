@@ -64,12 +64,34 @@ pub fn next_record(rest: &[u8]) -> Next {
 /// [`next_record`] by the tests of `order`, with the section's line made by `read`.
 #[inline(always)]
 pub(crate) fn next_by(order: &[RecordStep], read: impl Fn(&[u8], bool) -> Answer, rest: &[u8]) -> Next {
+    match whole_by(order, rest) {
+        Ok(Whole { section, security_first, .. }) => {
+            Next::Record { size: HEAD + section.len(), answer: read(section, security_first) }
+        }
+        Err(step) => step.answer,
+    }
+}
+
+/// A whole record that is not read yet.
+#[derive(Clone, Copy)]
+pub(crate) struct Whole<'a> {
+    /// The bytes behind its head.
+    pub section: &'a [u8],
+    /// Whether a SecurityHeader stands first in them.
+    pub security_first: bool,
+    /// What is left of the day file behind them.
+    pub behind: &'a [u8],
+}
+
+/// The first record of `rest`, or the test of `order` that it fails.
+#[inline(always)]
+pub(crate) fn whole_by<'o, 'a>(order: &'o [RecordStep], rest: &'a [u8]) -> Result<Whole<'a>, &'o RecordStep> {
     if let Some(step) = first_failure(order, rest) {
-        return step.answer;
+        return Err(step);
     }
     let (head, behind) = rest.split_at(HEAD);
-    let length = u32_at(head, 4) as usize;
-    Next::Record { size: HEAD + length, answer: read(&behind[..length], head[2] == 1) }
+    let (section, behind) = behind.split_at(section_length(rest));
+    Ok(Whole { section, security_first: head[2] == 1, behind })
 }
 
 /// A test of what is left of a day file; it answers with what ends the listing.

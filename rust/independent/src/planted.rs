@@ -1,14 +1,16 @@
 //! Wrong versions that a comparison has to find: for each kind one or two plain functions with their
 //! answer or their output changed a little, and every function with two neighbouring steps of its
-//! list exchanged. What C-17 says of places, C-18 of properties, and C-24 of copies and refusals has its
-//! wrong versions in files of their own.
+//! list exchanged. What C-15 says of a day's file, C-17 of places, C-18 of properties, and C-24 of copies and
+//! refusals has its wrong versions in files of their own.
 
+mod day;
 mod dependent;
 mod fields;
 mod places;
 mod properties;
 mod proposed;
 
+pub use day::{read_day, WrongDay};
 pub use dependent::{read_dependent, support_copy_dependent, Dependence};
 pub use fields::{field_of, WrongField};
 pub use places::{

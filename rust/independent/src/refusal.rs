@@ -6,7 +6,7 @@ pub struct Refusal {
     /// One of the numbers in [`number`].
     pub number: u32,
     /// The first byte of the field that failed, in the section that was being read or would be written
-    /// (C-17); 0 for all but the S and P steps outside requests.
+    /// (C-17); for 15 the record's number (C-15); 0 for all but these and the S and P steps outside requests.
     pub place: usize,
 }
 
@@ -45,6 +45,10 @@ pub mod number {
     pub const LABEL: u32 = 12;
     /// The output is short.
     pub const OUTPUT_SHORT: u32 = 13;
+    /// A record of a day's file is bad or cut.
+    pub const BAD_RECORD: u32 = 15;
+    /// A day's file has more records than slots, or than 256.
+    pub const TOO_MANY_RECORDS: u32 = 16;
     /// Priority, trace, delivery, acknowledge or auditing of a request is too large.
     pub const RANGE: u32 = 20;
     /// A request's privacy is none of 0, 1, 2.

@@ -1,12 +1,12 @@
-//! How often each refusal comes up in the generated cases, each level beside each algorithm, and what
-//! is retired.
+//! How often each refusal comes up in the generated cases, each level beside each algorithm, what is
+//! retired, and tables beside the records of a day's file.
 //! `--nocapture` prints the tables.
 
 use std::collections::{BTreeMap, BTreeSet};
 
 use independent::cause::{self, Cause};
 use independent::generate::{case, day, image, image_values, request, section_values, Random};
-use independent::generate::{place_case, place_values, properties_case};
+use independent::generate::{day_table, place_case, place_values, properties_case, DayTable};
 use independent::listing::{ended_by, next_record, Next};
 use independent::neighbours::List;
 use independent::queue::{read_image, write_image};
@@ -212,6 +212,36 @@ fn day_files() {
     assert!(ended.len() == 7 && ended.values().all(|&files| files > 500), "{ended:?}");
 }
 
+/// A slot for each record, one more and one less come up where a file ends well and where it does not, for
+/// few records and for 255 to 258; the slots that do not depend on the file; and each refusal of a section
+/// in the tables that are filled.
+#[test]
+fn day_tables() {
+    let mut r = Random::new(12);
+    let (mut met, mut tables, mut counts) = (BTreeMap::new(), BTreeMap::new(), Counts::new());
+    for _ in 0..20_000 {
+        let DayTable { file, slots } = day_table(&mut r);
+        let (mut rest, mut numbers) = (&file[..], Vec::new());
+        while let Next::Record { size, answer } = next_record(rest) {
+            numbers.push(answer.err().map_or(0, |refusal| refusal.number));
+            rest = &rest[size..];
+        }
+        let records = numbers.len();
+        if records.abs_diff(slots) < 2 && !(20..255).contains(&records) {
+            let many = (records >= 255).then_some(records);
+            *met.entry((many, slots.cmp(&records), rest.is_empty())).or_insert(0) += 1;
+        }
+        *tables.entry(slots).or_insert(0) += 1;
+        if records <= slots.min(256) {
+            numbers.iter().for_each(|&number| *counts.entry(number).or_default() += 1);
+        }
+    }
+    println!("tables: {met:?}, slots: {tables:?}, records in them: {counts:?}");
+    assert!(met.len() == 5 * 3 * 2 && met.values().all(|&files| files >= 5), "{met:?}");
+    assert!([0, 1, 255, 256, 257, 300].iter().all(|slots| tables[slots] >= 100), "{tables:?}");
+    each_at_least(&counts, 1..=12, 1_000, &[]);
+}
+
 #[test]
 fn the_same_seed_gives_the_same_cases() {
     let draw = || {
@@ -223,6 +253,7 @@ fn the_same_seed_gives_the_same_cases() {
             format!("{:?}", image_values(&mut r)),
             format!("{:?}", request(&mut r)),
             format!("{:?}", properties_case(&mut r)),
+            format!("{:?}", day_table(&mut r)),
         ];
         (texts, image(&mut r), day(&mut r))
     };

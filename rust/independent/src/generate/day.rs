@@ -1,6 +1,7 @@
-//! Day files for the listing program.
+//! Day files for the listing program, and for a table that is filled in a single call (C-15).
 
 use super::{case, Case, Draft, Random};
+use crate::day::DAY_MOST;
 use crate::listing::{HEAD, RECORD_MOST, SECTION_MOST};
 
 /// The records of a long day file behind its rows: their lines take more than 200 KB.
@@ -10,27 +11,21 @@ const ROWS: usize = 20;
 const SHORT: usize = 56;
 /// The bytes of a program's buffer.
 const BUFFER: usize = 65_536;
+/// The records of a short day file.
+const FEW: [usize; 7] = [0, 1, 1, 2, 3, 4, 6];
+/// One file for a table in so many has about [`DAY_MOST`] records.
+const MANY: usize = 8;
+/// Numbers of slots that do not depend on the file: the fewest, and some next to [`DAY_MOST`].
+const SLOTS: [usize; 6] = [0, 1, DAY_MOST - 1, DAY_MOST, DAY_MOST + 1, 300];
 
 /// A day file of a few records, a longest one now and then among them. It ends as it should, or in
 /// a head or a section that is cut, or in a head with one test or two neighbouring ones broken.
 pub fn day(r: &mut Random) -> Vec<u8> {
     let mut file = Vec::new();
-    for _ in 0..r.pick(&[0, 1, 1, 2, 3, 4, 6]) {
+    for _ in 0..r.pick(&FEW) {
         push_any(r, &mut file);
     }
-    let test = r.below(4);
-    match r.below(20) {
-        0 => file.truncate(r.below(file.len() + 1)),
-        1 | 2 => {
-            push_any(r, &mut file);
-            file.truncate(file.len() - 1 - r.below(HEAD));
-        }
-        3..=5 => push_cut_head(r, &mut file),
-        6 | 7 => push_wrong(r, &mut file, &[test]),
-        8..=13 => push_wrong(r, &mut file, &[test, test + 1]),
-        14 | 15 => push(&mut file, &filled(r, SECTION_MOST + 1)),
-        _ => {}
-    }
+    push_end(r, &mut file);
     file
 }
 
@@ -44,6 +39,47 @@ pub fn long_day(r: &mut Random) -> Vec<u8> {
     }
     file.extend_from_slice(&day(r));
     file
+}
+
+/// A day file, and how many slots to lend for its records.
+#[derive(Debug, Clone)]
+pub struct DayTable {
+    /// The file.
+    pub file: Vec<u8>,
+    /// The slots.
+    pub slots: usize,
+}
+
+/// A day file of a few records, or now and then of about [`DAY_MOST`]; with a slot for each of them, one
+/// more, one less, or another number of slots. Every other file may end as one of [`day`] does; now and
+/// then a bad record stands among the others.
+pub fn day_table(r: &mut Random) -> DayTable {
+    let mut file = Vec::new();
+    let many = r.once_in(MANY);
+    let records = if many { DAY_MOST - 1 + r.below(4) } else { r.pick(&FEW) };
+    let bad = if r.once_in(6) { r.below(records + 1) } else { records };
+    for number in 0..records {
+        if number == bad {
+            let test = r.below(4);
+            push_wrong(r, &mut file, &[test]);
+        }
+        match r.below(20) {
+            0 => push(&mut file, &Case { bytes: vec![], security_first: r.once_in(2) }),
+            _ if many => push(&mut file, &any(r)),
+            _ => push_any(r, &mut file),
+        }
+    }
+    if r.once_in(2) {
+        push_end(r, &mut file);
+    }
+    let slots = match r.below(8) {
+        0 | 1 => r.pick(&SLOTS),
+        2 | 3 => records.saturating_sub(1),
+        4 => records + 1,
+        5 => records + r.below(8),
+        _ => records,
+    };
+    DayTable { file, slots }
 }
 
 /// Adds rows of a long record, a largest one and a short one to a file that begins with them. The
@@ -75,6 +111,23 @@ fn filled(r: &mut Random, length: usize) -> Case {
     let mut bytes = if r.once_in(4) { vec![] } else { draft.lay_out(r) };
     bytes.resize(length, 0xAA);
     Case { bytes, security_first: draft.security_first }
+}
+
+/// Ends a file: most often in a head or a section that is cut, or in a wrong head.
+fn push_end(r: &mut Random, file: &mut Vec<u8>) {
+    let test = r.below(4);
+    match r.below(20) {
+        0 => file.truncate(r.below(file.len() + 1)),
+        1 | 2 => {
+            push_any(r, file);
+            file.truncate(file.len() - 1 - r.below(HEAD));
+        }
+        3..=5 => push_cut_head(r, file),
+        6 | 7 => push_wrong(r, file, &[test]),
+        8..=13 => push_wrong(r, file, &[test, test + 1]),
+        14 | 15 => push(file, &filled(r, SECTION_MOST + 1)),
+        _ => {}
+    }
 }
 
 /// Adds a record: any, or now and then one of the longest.

@@ -12,7 +12,7 @@ mod request;
 mod section;
 mod values;
 
-pub use day::{day, long_day};
+pub use day::{day, day_table, long_day, DayTable};
 pub use lists::CLASSES;
 pub use places::{place_case, place_values};
 pub use properties::properties_case;

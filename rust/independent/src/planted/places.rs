@@ -200,6 +200,7 @@ pub fn copy_day_at_headers(file: &[u8]) -> Copies {
     copies::copy_day_by(record, file)
 }
 
-fn in_reading(wrong: WrongPlace, input: &[u8], security_first: bool, right: Refusal) -> Refusal {
+/// The refusal of `input`, whose right one is given, at the wrong place.
+pub(super) fn in_reading(wrong: WrongPlace, input: &[u8], security_first: bool, right: Refusal) -> Refusal {
     wrong.refusal(&READING, &read::headers(input, security_first, ENDLESS), right)
 }

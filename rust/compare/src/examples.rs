@@ -1,17 +1,18 @@
-//! 01's examples, C-14's, C-17's, C-18's, C-21's and C-24's, held against each side. Where nothing else is said, their
-//! parts have content that passes S10, S11 and P7.
+//! 01's examples, C-14's, C-15's, C-17's, C-18's, C-21's and C-24's, held against each side. Where nothing else is
+//! said, their parts have content that passes S10, S11 and P7.
 
+use crate::days::{self, Day};
 use crate::lend::lend;
 use crate::report::{agree, Check, Tally};
 use crate::side::{
-    Answer, FieldAt, Part, Privacy, Refusal, Request, SectionValues, Sender, Side, Sides, Source,
+    Answer, FieldAt, Line, Part, Privacy, Refusal, Request, SectionValues, Sender, Side, Sides, Source,
 };
 
 /// An example's name, and what it says of a side.
 type Example = (&'static str, fn(&dyn Side) -> Check);
 
 /// The examples, by their numbers.
-const EXAMPLES: [Example; 18] = [
+const EXAMPLES: [Example; 19] = [
     ("example 1", zero_bytes),
     ("example 2", parts_in_a_row),
     ("example 3", longest_label),
@@ -25,6 +26,7 @@ const EXAMPLES: [Example; 18] = [
     ("example 11", titles),
     ("the listing's example", listing),
     ("C-14's example", level_and_algorithm),
+    ("C-15's example", day),
     ("C-17's example", places),
     ("C-18's example of requests", times),
     ("C-18's example of sections", properties),
@@ -275,6 +277,34 @@ fn level_and_algorithm(side: &dyn Side) -> Check {
         }
     }
     Ok(())
+}
+
+/// The files of the settled readings: two whole records and a bad third; 256 records and 257; none, and a bad first
+/// one, in no slot; a record of length 0, a refused section and one shorter than its record, then a byte behind them.
+fn day(side: &dyn Side) -> Check {
+    let record = |section: &[u8]| [b"\x57\x52\0\0", &(section.len() as u32).to_le_bytes(), section].concat();
+    let classed = |class| record(&Input::plain(0, class, 0, 0, &[]).0);
+    let accepted = |class| Ok(Line { class, label: 0, extension: 0, body: 0, total: 56 });
+    let reads = |file: &[u8], slots, answer, answers: &[Answer<Line>]| {
+        days::read(side, file, slots).is(&Day::new(answer, answers, slots))
+    };
+    let three = [classed(1), classed(2), b"\x57\x52\x02".to_vec()].concat();
+    for slots in [2, 3, 300] {
+        reads(&three, slots, refused(15, 2), &[accepted(1), accepted(2)])?;
+    }
+    reads(&three, 1, refused(16, 0), &[])?;
+    let most = classed(1).repeat(256);
+    for slots in [256, 257] {
+        reads(&most, slots, Ok(256), &[accepted(1); 256])?;
+        reads(&classed(1).repeat(257), slots, refused(16, 0), &[])?;
+    }
+    reads(&most, 255, refused(16, 0), &[])?;
+    reads(&[], 0, Ok(0), &[])?;
+    reads(b"\x57", 0, refused(15, 0), &[])?;
+    let mixed = [record(&[]), classed(3), record(&[0; 60])].concat();
+    let answers = [refused(1, 0), refused(10, 2), accepted(0)];
+    reads(&mixed, 3, Ok(3), &answers)?;
+    reads(&[&mixed[..], b"?"].concat(), 4, refused(15, 3), &answers)
 }
 
 /// The fields that fail, each of the text's units, and what their places are called.

@@ -2,10 +2,10 @@
 //! every input.
 //!
 //! [`side`] puts both behind one interface; [`sections`], [`section_properties`], [`writing`], [`places`], [`fields`],
-//! [`alike`], [`queues`], [`requests`], [`listing`] and [`copies`] compare two sides on generated cases, [`classes`],
-//! [`pairs`], [`retired`], [`sweeps`] and [`examples`] on fixed ones; [`proposed`] makes the copies that both are asked
-//! about, and [`properties`] says what has to hold of one side alone. Each takes its sides as arguments, so that a test
-//! can put a wrong one there.
+//! [`alike`], [`queues`], [`requests`], [`listing`], [`copies`] and [`days`] compare two sides on generated cases,
+//! [`classes`], [`pairs`], [`retired`], [`sweeps`] and [`examples`] on fixed ones; [`proposed`] makes the copies that
+//! both are asked about, and [`properties`] says what has to hold of one side alone. Each takes its sides as arguments,
+//! so that a test can put a wrong one there.
 
 #![forbid(unsafe_code)]
 #![warn(missing_docs)]
@@ -14,6 +14,7 @@ pub mod alike;
 pub mod bits;
 pub mod classes;
 pub mod copies;
+pub mod days;
 pub mod examples;
 pub mod fields;
 pub mod lend;

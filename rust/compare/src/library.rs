@@ -5,15 +5,18 @@ use std::fs::{self, File};
 use std::io::{self, ErrorKind, Read, Seek, Write};
 use std::path::{Path, PathBuf};
 use std::process::{self, Command, Stdio};
+use std::slice;
 use std::sync::atomic::{AtomicUsize, Ordering};
+use std::sync::OnceLock;
 use std::thread;
 
 use independent::queue::Value;
 use ugbariteyo as library;
 
+use crate::lend::lend_table;
 use crate::side::{Answer, FieldAt, Handling, Image, Line, Next, Part, Parts};
 use crate::side::{Privacy, Properties, Reading, Record, Records, Refusal, Request, SectionValues};
-use crate::side::{Security, Sender, Sent, Side, Source, Summary};
+use crate::side::{Security, Sender, Sent, Side, Slot, Source, Summary};
 
 /// Where the listing program lies where nothing else is said.
 const LISTING: &str = concat!(env!("CARGO_MANIFEST_DIR"), "/../../target/bin/listing");
@@ -108,6 +111,15 @@ impl Side for Library {
         assert!(records.next().is_none(), "an iterator that ended stays ended");
         Records { whole, stop: stop.map(|stop| (stop.number, stop.place)) }
     }
+    fn read_day(&self, file: &[u8], table: &mut [Slot]) -> Answer<usize> {
+        let stood = slots_before();
+        lend_table(
+            table,
+            |at| stood[at % stood.len()],
+            |slots| library::read_day(file, slots).map_err(refusal),
+            |slot| slot.answer().map(answer),
+        )
+    }
     fn list(&self, file: &[u8], source: Source) -> io::Result<Vec<u8>> {
         let stdin = match source {
             Source::Pipe => Stdio::piped(),
@@ -160,6 +172,16 @@ fn security_first(first: library::First) -> bool {
 }
 
 fn record<'a>(record: &library::Record<'a>) -> Record<'a> {
+    Record {
+        size: record.size,
+        security_first: security_first(record.first),
+        section: record.section,
+        answer: answer(record.answer),
+    }
+}
+
+/// What a record's line says.
+fn answer(answer: Result<library::Line, library::Refusal>) -> Answer<Line> {
     let line = |line: library::Line| Line {
         class: line.message_class,
         label: line.label_length.0,
@@ -167,12 +189,23 @@ fn record<'a>(record: &library::Record<'a>) -> Record<'a> {
         body: line.message_size as u32,
         total: line.section_length,
     };
-    Record {
-        size: record.size,
-        security_first: security_first(record.first),
-        section: record.section,
-        answer: record.answer.map(line).map_err(refusal),
-    }
+    answer.map(line).map_err(refusal)
+}
+
+/// Slots to stand in a lent table: one that no call has filled, and one for each of the classes 0 to 3, of which the
+/// last is refused. No two are the same.
+fn slots_before() -> &'static [library::DaySlot; 5] {
+    static SLOTS: OnceLock<[library::DaySlot; 5]> = OnceLock::new();
+    SLOTS.get_or_init(|| {
+        let mut slots = [library::DaySlot::default(); 5];
+        for (slot, class) in slots[1..].iter_mut().zip(0..) {
+            let mut record = [b"WR\0\0\x38\0\0\0", &[0; 56][..]].concat();
+            record[8 + 2] = class;
+            let read = library::read_day(&record, slice::from_mut(slot));
+            assert_eq!(read, Ok(1), "the slot is filled");
+        }
+        slots
+    })
 }
 
 fn refusal(refusal: library::Refusal) -> Refusal {

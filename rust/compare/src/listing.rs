@@ -109,7 +109,7 @@ fn survey(tally: &mut Tally, file: &[u8]) {
 }
 
 /// Compares two listings byte for byte; a difference shows the first line that differs.
-fn compare(one: &str, other: &str) -> Check {
+pub(crate) fn compare(one: &str, other: &str) -> Check {
     if one != other {
         let mut lines = one.split_inclusive('\n').zip(other.split_inclusive('\n'));
         let (one, other) = lines.find(|(one, other)| one != other).unwrap_or((one, other));

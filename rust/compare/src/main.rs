@@ -16,8 +16,8 @@ use compare::report::{Tally, HEADER};
 use compare::second::Independent;
 use compare::side::Sides;
 use compare::{
-    alike, classes, copies, examples, fields, listing, pairs, places, properties, queues, requests, retired,
-    section_properties, sections, sweeps, writing,
+    alike, classes, copies, days, examples, fields, listing, pairs, places, properties, queues, requests,
+    retired, section_properties, sections, sweeps, writing,
 };
 use independent::generate::Random;
 
@@ -82,8 +82,7 @@ fn run(arguments: Arguments) -> io::Result<u64> {
     let Arguments { factor, seed, library } = arguments;
     library.listing()?;
     let copied = copies::program()?;
-    println!("seed {seed}, factor {factor}");
-    println!("{HEADER}");
+    println!("seed {seed}, factor {factor}\n{HEADER}");
     let mut seeds = Random::new(seed);
     let mut generator = || Random::new(seeds.word());
     let sides = Sides { one: &library, other: &Independent };
@@ -114,6 +113,7 @@ fn run(arguments: Arguments) -> io::Result<u64> {
     print(requests::run(sides, 300_000 * factor, &mut generator()), &REQUEST);
     print(listing::run(sides, 100_000 * factor, &mut generator())?, &SECTION);
     print(copies::run(&copied, copies::faithful(), 50_000 * factor, &mut generator())?, &SECTION);
+    print(days::run(sides, 20_000 * factor, &mut generator()), &[15, 16]);
     println!("{cases} cases, {differences} differences");
     Ok(differences)
 }

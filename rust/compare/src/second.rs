@@ -2,10 +2,11 @@
 
 use std::io;
 
-use independent::{field, listing, queue, request};
+use independent::{day, field, listing, queue, request};
 
-use crate::side::{part_of, Answer, FieldAt, Image, Next, Properties, Reading, Record, Refusal, Request};
-use crate::side::{Section, SectionValues, Security, Sent, Side, Source, Summary};
+use crate::lend::lend_table;
+use crate::side::{part_of, Answer, FieldAt, Image, Line, Next, Properties, Reading, Record, Refusal};
+use crate::side::{Request, Section, SectionValues, Security, Sent, Side, Slot, Source, Summary};
 
 /// The independent reader and writer.
 pub struct Independent;
@@ -68,6 +69,9 @@ impl Side for Independent {
             }
         }
     }
+    fn read_day(&self, file: &[u8], table: &mut [Slot]) -> Answer<usize> {
+        lend_answers(table, |answers| day::read_day(file, answers))
+    }
     fn list(&self, file: &[u8], _: Source) -> io::Result<Vec<u8>> {
         let mut lines = Vec::new();
         listing::list(file, &mut lines)?;
@@ -92,6 +96,14 @@ pub fn reading<'a>(section: &Section<'a>, input: &'a [u8]) -> Reading<'a> {
             section.body,
         ],
     }
+}
+
+/// Lends `read` tables of the independent library.
+pub fn lend_answers(
+    table: &mut [Slot],
+    read: impl Fn(&mut [Answer<Line>]) -> Answer<usize>,
+) -> Answer<usize> {
+    lend_table(table, |at| Err(Refusal { number: at as u32, place: !at }), read, Some)
 }
 
 /// The summary in a reading by the independent library.

@@ -152,6 +152,17 @@ pub struct Records<'a> {
     pub stop: Option<(usize, usize)>,
 }
 
+/// What came of a slot of a lent table.
+#[derive(Debug, Clone, Copy, PartialEq, Eq)]
+pub enum Slot {
+    /// It stays as it was.
+    Kept,
+    /// It was filled.
+    Filled(Answer<Line>),
+    /// Neither: what it holds depends on what it held before, or is no answer.
+    Spoilt,
+}
+
 /// A library: everything that it can be asked.
 pub trait Side {
     /// The full reading of a section.
@@ -200,6 +211,8 @@ pub trait Side {
             }
         }
     }
+    /// A day file read in a single call into as many slots as `table` has, in which it is said what came of each.
+    fn read_day(&self, file: &[u8], table: &mut [Slot]) -> Answer<usize>;
     /// The listing of a day file.
     fn list(&self, file: &[u8], source: Source) -> io::Result<Vec<u8>>;
 }

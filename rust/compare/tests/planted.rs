@@ -4,20 +4,22 @@ use std::io;
 
 use compare::library::Library;
 use compare::report::Tally;
-use compare::second::{properties_made, reading, sent, summary, Independent};
+use compare::second::{lend_answers, properties_made, reading, sent, summary, Independent};
 use compare::side::{Answer, FieldAt, Image, Line, Next, Properties, Reading, Record, Records, Refusal};
-use compare::side::{Request, SectionValues, Sent, Side, Sides, Source, Summary};
+use compare::side::{Request, SectionValues, Sent, Side, Sides, Slot, Source, Summary};
 use compare::{
-    alike, classes, examples, fields, listing, pairs, places, properties, queues, requests, retired,
+    alike, classes, days, examples, fields, listing, pairs, places, properties, queues, requests, retired,
     section_properties, sections, sweeps, writing,
 };
 use independent::generate::Random;
 use independent::neighbours::{List, Neighbours};
-use independent::planted::{self, Dependence, WrongField, WrongKnown, WrongPlace};
+use independent::planted::{self, Dependence, WrongDay, WrongField, WrongKnown, WrongPlace};
 use independent::planted::{WrongRetired, WrongStep, WrongTime, WrongVerdict, WrongYes};
 
 /// The generated cases of a kind.
 const CASES: u64 = 8_000;
+/// The generated day files and tables.
+const DAYS: u64 = 1_000;
 
 /// The one function that is wrong.
 #[derive(Debug, Clone, Copy, PartialEq)]
@@ -84,6 +86,8 @@ enum Fault {
     RecordStop,
     /// The record that is wrong or cut is counted with those before it.
     StopNumber,
+    /// A day file is read otherwise into a table.
+    Day(WrongDay),
     /// Every refusal changes a lent byte.
     Refusal,
     /// Two neighbouring steps of a list are exchanged.
@@ -269,6 +273,12 @@ impl Side for Planted {
                 Records { stop: records.stop.map(|(number, place)| (number + 1, place)), ..records }
             }
             _ => records,
+        }
+    }
+    fn read_day(&self, file: &[u8], table: &mut [Slot]) -> Answer<usize> {
+        match self.0 {
+            Fault::Day(wrong) => lend_answers(table, |answers| planted::read_day(wrong, file, answers)),
+            _ => Independent.read_day(file, table),
         }
     }
     fn list(&self, file: &[u8], source: Source) -> io::Result<Vec<u8>> {
@@ -484,6 +494,12 @@ fn day_files_listed() {
     });
 }
 
+#[test]
+fn days_read() {
+    let faults: Vec<_> = WrongDay::all().into_iter().map(Fault::Day).collect();
+    finds(&faults, |sides| days::run(sides, DAYS, &mut Random::new(19)));
+}
+
 /// A kind of comparison.
 type Run = fn(Sides<'_>) -> Tally;
 
@@ -541,6 +557,14 @@ fn the_same_wrong_properties_on_both_sides() {
     }
 }
 
+/// The same for a day's table.
+#[test]
+fn the_same_wrong_table_on_both_sides() {
+    for wrong in WrongDay::all() {
+        tells(Fault::Day(wrong), |sides| days::run(sides, DAYS, &mut Random::new(9)));
+    }
+}
+
 /// The same for places and the fields that they lie in.
 #[test]
 fn the_same_wrong_place_on_both_sides() {
@@ -576,6 +600,10 @@ fn examples_of_the_paper() {
     use WrongKnown::{HandlingZero, PrivacyThree, PrivacyTwo, ProviderZero, SenderZero, TitleNull};
     let known =
         [HandlingZero, PrivacyThree, PrivacyTwo, ProviderZero, SenderZero, TitleNull].map(Fault::Known);
-    let faults = [&[Read, WriteSection, old][..], &retired, &placed, &written, &proposed, &timed, &known];
+    use WrongDay::{BadCounted, BadFromOne, EmptyBad, FilledFirst, FullRefused, NotFilled, RestCleared};
+    let days = [BadCounted, BadFromOne, EmptyBad, FilledFirst, FullRefused, NotFilled, RestCleared];
+    let days = days.map(Fault::Day);
+    let faults =
+        [&[Read, WriteSection, old][..], &retired, &placed, &written, &proposed, &timed, &known, &days];
     finds(&faults.concat(), examples::run);
 }

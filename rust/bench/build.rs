@@ -4,12 +4,13 @@ use std::env;
 use std::path::{Path, PathBuf};
 use std::process::{exit, Command};
 
-const SOURCES: [&str; 8] = [
+const SOURCES: [&str; 9] = [
     "tuned/read.c",
     "tuned/copy.c",
     "tuned/check.c",
     "tuned/write.c",
     "tuned/image.c",
+    "tuned/day.c",
     "c/agree.c",
     "c/loops.c",
     "c/samples.c",

@@ -44,6 +44,17 @@ static bool same_image(const ugb_image_read *a, const ugb_image_read *b)
     return same_refusal(&a->refusal, &b->refusal) && SAME_BYTES(format) && SAME_BYTES(fixed) && SAME_BYTES(text);
 }
 
+static bool same_day(const ugb_day *a, const ugb_day *b)
+{
+    return same_refusal(&a->refusal, &b->refusal) && SAME(records);
+}
+
+static bool same_slot(const ugb_day_slot *a, const ugb_day_slot *b)
+{
+    return same_refusal(&a->refusal, &b->refusal) && SAME(message_class) && SAME(label_length) &&
+           SAME(extension_size) && SAME(message_size) && SAME(section_length);
+}
+
 static bool same_output(const ugb_output *a, const ugb_output *b)
 {
     return same_refusal(&a->refusal, &b->refusal) && SAME(length);
@@ -99,4 +110,15 @@ bool image_writings_agree(const given_image *l, uint8_t *out, uint8_t *tuned_out
     ugb_output library = write_given_image(ugb_write_image, l, out, length);
     ugb_output tuned = write_given_image(tuned_write_image, l, tuned_out, length);
     return same_output(&library, &tuned) && memcmp(out, tuned_out, length) == 0;
+}
+
+bool days_agree(const day *l, ugb_day_slot *tuned_table)
+{
+    fill((uint8_t *)l->table, (uint8_t *)tuned_table, l->slots * sizeof *l->table);
+    ugb_day library = ugb_read_day(UGB_BYTES(l->file), l->table, l->slots);
+    ugb_day tuned = tuned_read_day(UGB_BYTES(l->file), tuned_table, l->slots);
+    bool same = same_day(&library, &tuned);
+    for (size_t slot = 0; slot < l->slots; slot++)
+        same = same && same_slot(&l->table[slot], &tuned_table[slot]);
+    return same;
 }

@@ -31,8 +31,7 @@ typedef struct input {
     const given *given; /* what the section is written from */
     uint8_t s[ROOM];    /* the section */
     size_t s_length;
-    uint8_t copy[ROOM];          /* its support copy, as long */
-    uint8_t record[HEAD + ROOM]; /* the section as a record of a day's file */
+    uint8_t copy[ROOM]; /* its support copy, as long */
     uint8_t out[ROOM];
     size_t out_length;
 } input;
@@ -43,6 +42,10 @@ static input inputs[] = {
     {.name = "no security, 4 KB body", .given = &long_sample, .out_length = ROOM},
 };
 enum { INPUTS = sizeof inputs / sizeof *inputs, SECURED = 1 };
+
+/* A day's file of each section, every record the same, and the table that it is read into. */
+static uint8_t days[INPUTS][UGB_DAY_MOST * (HEAD + ROOM)];
+static ugb_day_slot table[UGB_DAY_MOST];
 
 /* ---- The calls */
 
@@ -56,6 +59,9 @@ enum { INPUTS = sizeof inputs / sizeof *inputs, SECURED = 1 };
 #define SECTION i->s, i->s_length
 #define FIRST i->given->values->security_first
 #define OUT i->out, i->out_length
+#define RECORD (HEAD + i->s_length)
+#define DAY days[i - inputs]
+#define DAY_LENGTH (UGB_DAY_MOST * RECORD)
 #define FORMAT ((ugb_queue_format){image_sample.bytes[0], image_sample.bytes[1]})
 
 CALL(call_read, ugb_read(SECTION, FIRST))
@@ -66,7 +72,10 @@ CALL(call_support_copy, ugb_support_copy(SECTION, FIRST, OUT))
 CALL(call_check_copy, ugb_is_support_copy(SECTION, FIRST, i->copy, i->s_length))
 CALL(call_check_cut_copy, ugb_is_support_copy(SECTION, FIRST, i->copy, i->s_length - 1))
 CALL(call_write, ugb_write_section(i->given->values, &i->given->parts, OUT))
-CALL(call_next_record, ugb_next_record(i->record, HEAD + i->s_length))
+CALL(call_next_record, ugb_next_record(DAY, RECORD))
+CALL(call_read_day, ugb_read_day(DAY, DAY_LENGTH, table, UGB_DAY_MOST))
+CALL(call_read_long_day, ugb_read_day(DAY, DAY_LENGTH, table, UGB_DAY_MOST - 1))
+CALL(call_read_cut_day, ugb_read_day(DAY, DAY_LENGTH - 1, table, UGB_DAY_MOST))
 CALL(call_send, send_sample(OUT))
 CALL(call_defaulted, defaulted_sample())
 CALL(call_read_image, ugb_read_image(image_sample.bytes, image_sample.length))
@@ -108,8 +117,11 @@ static void make_section(input *i)
     i->s_length = ugb_write_section(i->given->values, &i->given->parts, i->s, ROOM).length;
     ugb_support_copy(SECTION, FIRST, i->copy, ROOM);
     uint8_t head[HEAD] = {0x57, 0x52, FIRST, 0, i->s_length % 256, i->s_length / 256};
-    memcpy(i->record, head, HEAD);
-    memcpy(i->record + HEAD, i->s, i->s_length);
+    for (int number = 0; number < UGB_DAY_MOST; number++) {
+        uint8_t *record = DAY + number * RECORD;
+        memcpy(record, head, HEAD);
+        memcpy(record + HEAD, i->s, i->s_length);
+    }
 }
 
 int main(void)
@@ -126,6 +138,7 @@ int main(void)
     count_sections("check copy", call_check_copy);
     count_sections("write", call_write);
     count_sections("next record", call_next_record);
+    count_sections("read day, 256 records", call_read_day);
     count("send", "signed, 40-unit title", call_send, secured);
     count("defaulted", "signed, 40-unit title", call_defaulted, secured);
     count("queue image read", "direct name", call_read_image, secured);
@@ -140,6 +153,8 @@ int main(void)
     count_refused("check copy, refused", "P7, last unit of the label", call_check_copy, label_end, 1);
     count("check copy, no", "a byte short", call_check_cut_copy, secured);
     count("queue image read, refused", "last unit of the name", call_read_cut_image, secured);
+    count("read day, refused", "one record too many", call_read_long_day, secured);
+    count("read day, refused", "last record cut", call_read_cut_day, secured);
     secured->out_length = 0;
     count("support copy, refused", "output short", call_support_copy, secured);
     count("write, refused", "output short", call_write, secured);

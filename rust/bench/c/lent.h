@@ -14,6 +14,12 @@ typedef struct copied {
     ugb_bytes copy;
 } copied;
 
+typedef struct day {
+    ugb_bytes file;
+    ugb_day_slot *table;
+    size_t slots;
+} day;
+
 /* A call with what is lent to it, repeated. */
 #define LOOP_OF(name, lent) void loop_##name(const lent *l, uint8_t *out, size_t out_length, uint64_t times)
 
@@ -29,6 +35,7 @@ LOOP_OF(send, void);
 LOOP_OF(defaulted, void);
 LOOP_OF(read_image, ugb_bytes);
 LOOP_OF(write_image, given_image);
+LOOP_OF(read_day, day);
 
 /* The tuned calls. */
 LOOP_OF(tuned_read, section);
@@ -37,6 +44,7 @@ LOOP_OF(tuned_is_support_copy, copied);
 LOOP_OF(tuned_write_section, given);
 LOOP_OF(tuned_read_image, ugb_bytes);
 LOOP_OF(tuned_write_image, given_image);
+LOOP_OF(tuned_read_day, day);
 
 /* Whether a tuned call answers as the library's, and leaves its output as the library's leaves its. */
 bool reads_agree(const section *l);
@@ -45,5 +53,6 @@ bool checks_agree(const copied *l);
 bool writings_agree(const given *l, uint8_t *out, uint8_t *tuned_out, size_t length);
 bool image_reads_agree(const ugb_bytes *l);
 bool image_writings_agree(const given_image *l, uint8_t *out, uint8_t *tuned_out, size_t length);
+bool days_agree(const day *l, ugb_day_slot *tuned_table);
 
 #endif

@@ -31,6 +31,7 @@ static inline void looked_at(const ugb_refusal *refusal)
 #define SECTION l->s.bytes, l->s.length
 #define COPIED UGB_BYTES(l->section.s), l->section.security_first, UGB_BYTES(l->copy)
 #define OUT out, out_length
+#define DAY UGB_BYTES(l->file), l->table, l->slots
 
 ANSWERED(read, section, ugb_reading, ugb_read(SECTION, l->security_first))
 ANSWERED(summarize, section, ugb_summarized, ugb_summarize(SECTION, l->security_first))
@@ -40,6 +41,7 @@ ANSWERED(send, void, ugb_sent, send_sample(OUT))
 ANSWERED(defaulted, void, ugb_defaulted_answer, defaulted_sample())
 ANSWERED(read_image, ugb_bytes, ugb_image_read, ugb_read_image(l->bytes, l->length))
 ANSWERED(write_image, given_image, ugb_output, write_given_image(ugb_write_image, l, OUT))
+ANSWERED(read_day, day, ugb_day, ugb_read_day(DAY))
 
 ANSWERED(tuned_support_copy, section, ugb_output, tuned_support_copy(SECTION, l->security_first, OUT))
 ANSWERED(tuned_write_section, given, ugb_output, write_given(tuned_write_section, l, OUT))
@@ -48,6 +50,7 @@ LOOP(tuned_read, section, ugb_reading answer; tuned_read(&answer, SECTION, l->se
 ANSWERED(tuned_write_image, given_image, ugb_output, write_given_image(tuned_write_image, l, OUT))
 LOOP(tuned_read_image, ugb_bytes, ugb_image_read answer; tuned_read_image(&answer, l->bytes, l->length),
      looked_at(&answer.refusal))
+ANSWERED(tuned_read_day, day, ugb_day, tuned_read_day(DAY))
 
 LOOP(same_summary, section, bool answer = ugb_same_summary(SECTION, OUT, l->security_first), )
 LOOP(is_support_copy, copied, bool answer = ugb_is_support_copy(COPIED), )

@@ -1,13 +1,15 @@
-//! What has to hold before anything is timed: each tuned call answers as the library's, and the request that C sends is
-//! the one that Rust sends.
+//! What has to hold before anything is timed: each tuned call answers as the library's, the request that C sends is the
+//! one that Rust sends, and a day's file is read alike by all.
 
-use compare::library::section_values;
+use compare::days;
+use compare::library::{section_values, Library};
+use compare::second::Independent;
 use independent::queue::HEAD;
-use ugbariteyo::{is_support_copy, support_copy_vec, First};
+use ugbariteyo::{is_support_copy, read_day, support_copy_vec, DaySlot, First, DAY_MOST};
 
 use crate::c;
 use crate::refusals::Refused;
-use crate::samples::{image, RequestSample, Sample};
+use crate::samples::{image, record, RequestSample, Sample};
 
 /// Panics where a tuned call answers otherwise than the library: on these samples, in outputs long enough and a byte
 /// short, with a class that is not listed, on every refused section, on right and wrong copies, and on images.
@@ -79,4 +81,32 @@ fn check_request() {
     let mut sent = vec![0; section.len()];
     c::send(&c::Nothing::LENT, &mut sent, 1);
     assert_eq!(sent, section, "C sends another request");
+}
+
+/// Panics where the library from Rust and from C, the independent one and the tuned call do not read a day's file
+/// alike: of each sample as many records as a call reads, one more, and the last one cut, into as many slots, one fewer
+/// and one more; and all refused sections in one file.
+pub fn check_days(samples: &[Sample]) {
+    for sample in samples {
+        let file = sample.day(DAY_MOST + 1);
+        let whole = file.len() / (DAY_MOST + 1) * DAY_MOST;
+        for length in [whole, file.len(), whole - 1] {
+            (DAY_MOST - 1..=DAY_MOST + 1).for_each(|slots| same_day(&file[..length], slots));
+        }
+    }
+    let refused = Refused::all();
+    let records = refused.iter().map(|one| record(one.first == First::SecurityHeader, &one.section));
+    same_day(&records.collect::<Vec<_>>().concat(), refused.len());
+}
+
+/// All sides give the same number of records or refusal, and leave each slot of a table alike.
+fn same_day(file: &[u8], slots: usize) {
+    let library = days::read(&Library::new(None), file, slots);
+    assert_eq!(library, days::read(&Independent, file, slots), "independent: a day of {} bytes", file.len());
+    let mut table = vec![DaySlot::default(); slots];
+    assert!(c::Day::new(file, &mut table).agrees(), "tuned: a day of {} bytes", file.len());
+    // what C had filled, Rust fills again
+    let from_c = table.clone();
+    assert_eq!(read_day(file, &mut table).ok(), library.answer.ok(), "a day of {} bytes", file.len());
+    assert_eq!(table, from_c, "from C: a day of {} bytes", file.len());
 }

@@ -7,7 +7,7 @@ use std::ffi::c_void;
 use std::marker::PhantomData;
 use std::ptr;
 
-use ugbariteyo::{First, SectionValues};
+use ugbariteyo::{DaySlot, First, SectionValues};
 
 /// Bytes that are lent.
 #[repr(C)]
@@ -92,6 +92,22 @@ impl<'a> GivenImage<'a> {
     }
 }
 
+/// A day's file, and the table that it is read into.
+#[repr(C)]
+pub struct Day<'a> {
+    file: Bytes<'a>,
+    table: *mut DaySlot,
+    slots: usize,
+    lent: PhantomData<&'a mut [DaySlot]>,
+}
+
+impl<'a> Day<'a> {
+    /// This file and this table.
+    pub fn new(file: &'a [u8], table: &'a mut [DaySlot]) -> Self {
+        Self { file: file.into(), table: table.as_mut_ptr(), slots: table.len(), lent: PhantomData }
+    }
+}
+
 /// What a call takes that makes its own request.
 #[repr(C)]
 pub struct Nothing(u8);
@@ -109,7 +125,7 @@ macro_rules! loops {
         $(
             /// Makes the call so many times.
             pub fn $name(lent: &$lent, out: &mut [u8], times: u64) {
-                // SAFETY: what is lent was made from slices, and the output is one that is borrowed alone.
+                // SAFETY: what is lent was made from slices; a table in it, and the output, are borrowed alone.
                 unsafe { $symbol(lent, out.as_mut_ptr(), out.len(), times) }
             }
         )*
@@ -128,12 +144,14 @@ loops! {
     defaulted(Nothing) = loop_defaulted;
     read_image(Bytes<'_>) = loop_read_image;
     write_image(GivenImage<'_>) = loop_write_image;
+    read_day(Day<'_>) = loop_read_day;
     tuned_read(Section<'_>) = loop_tuned_read;
     tuned_support_copy(Section<'_>) = loop_tuned_support_copy;
     tuned_is_support_copy(Copied<'_>) = loop_tuned_is_support_copy;
     tuned_write_section(Given<'_>) = loop_tuned_write_section;
     tuned_read_image(Bytes<'_>) = loop_tuned_read_image;
     tuned_write_image(GivenImage<'_>) = loop_tuned_write_image;
+    tuned_read_day(Day<'_>) = loop_tuned_read_day;
 }
 
 extern "C" {
@@ -143,6 +161,7 @@ extern "C" {
     fn writings_agree(given: &Given<'_>, out: *mut u8, tuned_out: *mut u8, length: usize) -> bool;
     fn image_reads_agree(image: &Bytes<'_>) -> bool;
     fn image_writings_agree(given: &GivenImage<'_>, out: *mut u8, tuned_out: *mut u8, length: usize) -> bool;
+    fn days_agree(day: &Day<'_>, tuned_table: *mut DaySlot) -> bool;
 }
 
 impl Section<'_> {
@@ -188,13 +207,23 @@ impl GivenImage<'_> {
     }
 }
 
+impl Day<'_> {
+    /// Whether the tuned reading into another table of as many slots is the library's.
+    pub fn agrees(&self) -> bool {
+        let mut tuned_table = vec![DaySlot::default(); self.slots];
+        // SAFETY: as for the loops; any bytes make a slot.
+        unsafe { days_agree(self, tuned_table.as_mut_ptr()) }
+    }
+}
+
 #[cfg(test)]
 mod tests {
-    use super::{Bytes, Copied, Given, GivenImage, Section};
+    use super::{Bytes, Copied, Day, Given, GivenImage, Section};
     use compare::library::{first, section_values};
-    use independent::generate::{case, image, image_values, section_values as generated_values, Random};
+    use independent::generate::{case, day_table, image, image_values, section_values as generated_values};
+    use independent::generate::{DayTable, Random};
     use independent::queue::HEAD;
-    use ugbariteyo::support_copy_vec;
+    use ugbariteyo::{support_copy_vec, DaySlot};
 
     const CASES: u64 = 20_000;
 
@@ -269,6 +298,16 @@ mod tests {
             let length = HEAD + values.fixed.len() + values.text.len();
             let agrees = [values.room, length, length - 1].map(|length| given.agrees(length));
             assert_eq!(agrees, [true; 3], "{values:02X?}");
+        }
+    }
+
+    #[test]
+    fn tuned_day_reading_agrees() {
+        let mut r = Random::new(6);
+        for _ in 0..CASES {
+            let DayTable { file, slots } = day_table(&mut r);
+            let mut table = vec![DaySlot::default(); slots];
+            assert!(Day::new(&file, &mut table).agrees(), "{slots} slots, {file:02X?}");
         }
     }
 

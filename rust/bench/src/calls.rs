@@ -4,6 +4,7 @@ use std::hint::black_box;
 
 use compare::library::{request as library_request, section_values};
 use ugbariteyo as library;
+use ugbariteyo::{DaySlot, DAY_MOST};
 
 use crate::c;
 use crate::output::Output;
@@ -181,6 +182,30 @@ pub fn next_record(sample: &Sample) -> Row {
         (PlainRust, taken(|| independent::listing::next_record(&record))),
     ];
     Row::timed(format!("next record, {}", sample.name), record.len(), calls)
+}
+
+/// A day's file of so many records as a call reads, each this sample's, read into a table with a slot for each.
+pub fn read_day(sample: &Sample) -> Row {
+    let file = sample.day(DAY_MOST);
+    let [mut table, mut table_of_c, mut tuned_table] = [[DaySlot::default(); DAY_MOST]; 3];
+    let mut answers = [Err(independent::Refusal { number: 0, place: 0 }); DAY_MOST];
+    let [lent, tuned_lent] = [&mut table_of_c, &mut tuned_table].map(|table| c::Day::new(&file, table));
+    let calls = vec![
+        (Library, filled(&mut table, |table| library::read_day(&file, table))),
+        (FromC, from_c(|times| c::read_day(&lent, &mut [], times))),
+        (PlainRust, filled(&mut answers, |table| independent::day::read_day(&file, table))),
+        (TunedC, from_c(|times| c::tuned_read_day(&tuned_lent, &mut [], times))),
+    ];
+    Row::timed(format!("read day, {DAY_MOST} records, {}", sample.name), file.len(), calls)
+}
+
+/// A call that must not be refused and fills this table, to be repeated.
+fn filled<'a, S, E>(table: &'a mut [S], call: impl Fn(&mut [S]) -> Result<usize, E> + 'a) -> Repeated<'a> {
+    Box::new(move |times| {
+        for _ in 0..times {
+            assert!(call(black_box(&mut *table)).is_ok());
+        }
+    })
 }
 
 fn from_c<'a>(calls: impl FnMut(u64) + 'a) -> Repeated<'a> {

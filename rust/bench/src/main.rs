@@ -52,6 +52,7 @@ fn bench(date: Option<&str>) -> io::Result<()> {
     ];
     let short = &samples[..3];
     agree::check(&samples);
+    agree::check_days(short);
     print_circumstances(date);
     println!("{}", table::HEADER);
     short.iter().for_each(|sample| println!("{}", calls::read(sample)));
@@ -66,6 +67,7 @@ fn bench(date: Option<&str>) -> io::Result<()> {
     println!("{}", calls::read_image());
     println!("{}", calls::write_image());
     short.iter().for_each(|sample| println!("{}", calls::next_record(sample)));
+    short.iter().for_each(|sample| println!("{}", calls::read_day(sample)));
     println!("{}", listing::row(program)?);
     Ok(())
 }

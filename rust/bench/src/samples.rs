@@ -120,6 +120,11 @@ impl Sample {
     pub fn record(&self) -> Vec<u8> {
         record(self.security_first, &self.section())
     }
+
+    /// A day's file of so many records, each this one.
+    pub fn day(&self, records: usize) -> Vec<u8> {
+        self.record().repeat(records)
+    }
 }
 
 /// The record of a day's file with this section.

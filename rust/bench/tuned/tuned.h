@@ -1,5 +1,6 @@
 /* The limit that the benchmark holds the library against: reading, support copy, its check and writing of sections,
- * reading and writing of images, in C tuned by hand for x86-64, with the answers of ugbariteyo.h for every input. */
+ * reading and writing of images, reading of a day's file, in C tuned by hand for x86-64, with the answers of
+ * ugbariteyo.h for every input. */
 #ifndef TUNED_H
 #define TUNED_H
 
@@ -13,5 +14,6 @@ __typeof__(ugb_support_copy) tuned_support_copy;
 __typeof__(ugb_is_support_copy) tuned_is_support_copy;
 __typeof__(ugb_write_section_positional) tuned_write_section;
 __typeof__(ugb_write_image) tuned_write_image;
+__typeof__(ugb_read_day) tuned_read_day;
 
 #endif

@@ -10,7 +10,7 @@ ghost use mathlib.Core.Path.{_≡_};
 ghost use Rattle.days.specs.Day.{dayAnswer, recordsOf};
 
 // A table takes no more records.
-pub const MOST: usize = 256;
+const MOST: usize = 256;
 
 // The answer for a table of so many slots. One record too many ends the counting: 16 comes before 15.
 pub(crate) fn count_records(file: &[u8], slots: Records) -> DayRead

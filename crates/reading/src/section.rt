@@ -206,8 +206,9 @@ fn section_of(
 pub fn summarize(s: &[u8], security_first: bool) -> Summarized
     ensures { λ r. ⌜ r ≡ summarize «security_first» (now (s .entry)) ⌝ }
 {
-    if base_judge(s, security_first).number != refusal::PASSED {
-        return Summarized::Refused(judge(s, security_first));
+    let judged = base_judge(s, security_first);
+    if judged.number != refusal::PASSED {
+        return Summarized::Refused(placed(s, security_first, judged));
     }
     let header = header_at(s, security_first);
     let section = section_of(s, security_first, header, section_verdicts(s, header));
@@ -227,8 +228,9 @@ pub enum ReadingCase {
 pub fn reading_case(s: &[u8], security_first: bool) -> ReadingCase
     ensures { λ r. ⌜ r ≡ readingCase «security_first» (read «security_first» (now (s .entry))) ⌝ }
 {
-    if base_judge(s, security_first).number != refusal::PASSED {
-        return ReadingCase::Refused(judge(s, security_first));
+    let judged = base_judge(s, security_first);
+    if judged.number != refusal::PASSED {
+        return ReadingCase::Refused(placed(s, security_first, judged));
     }
     if security_first {
         let header = security_header(s);

@@ -17,7 +17,7 @@ use Rattle.reading.proofs.section.reading_case.Tie as tie
 
 returns : tie.Need-returns
 unfolding readingCase read fullReading
-returns c = rw (refused-told _ _ (the tie.After-base-judge (search) .base-judge .ensures) (the tie.Then1 (search) .if1 .taken) (c .judge .ensures))
+returns c = rw (refused-told _ _ (the tie.After-base-judge (search) .base-judge .ensures) (the tie.Then1 (search) .if1 .taken) (c .placed .ensures))
 
 input : tie.Else1 → List ℕ
 input c = now (the tie.Start (search) .args .s)

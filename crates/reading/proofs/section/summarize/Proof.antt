@@ -14,7 +14,7 @@ use Rattle.reading.proofs.section.summarize.Statement.{statement}
 use Rattle.reading.proofs.section.summarize.Tie as tie
 
 returns : tie.Need-returns
-returns c = sym (refused-told _ _ (the tie.After-base-judge (search) .base-judge .ensures) (the tie.Then1 (search) .if1 .taken) (c .judge .ensures))
+returns c = sym (refused-told _ _ (the tie.After-base-judge (search) .base-judge .ensures) (the tie.Then1 (search) .if1 .taken) (c .placed .ensures))
 
 none : (c : tie.Else1) → judge (the tie.Start (search) .args .security-first) (now (the tie.Start (search) .args .s)) .number ≡ 0
 none c = none-told _ _ (the tie.After-base-judge (search) .base-judge .ensures) (c .if1 .left)

@@ -3,7 +3,7 @@ use Prim.Native.Nat.{ℕ}
 use mathlib.Core.Path.{_≡_, refl}
 use mathlib.Core.Bool.{Bool, true, false}
 use native.Mathlib.Omega.{arith}
-use Rattle.days.specs.Day.{DayRecords, counted, dayAnswer, tooMany}
+use Rattle.days.specs.Day.{counted, dayAnswer, tooMany}
 use Rattle.days.specs.declared.answer.DayRead.the-variants.{Read}
 use Rattle.ugbariteyo.specs.Refusals.{Told}
 use Rattle.ugbariteyo.proofs.Refusals.{told-accepted, told-refused}

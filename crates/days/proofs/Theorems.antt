@@ -10,10 +10,10 @@ use lib.Seq.{drop-at, take-at}
 use Rattle.octets.specs.Over.{over}
 use Rattle.rules.specs.Reading.{summarize}
 use Rattle.rules.specs.Refusal.{bytes}
-use Rattle.records.specs.Head.{headBytes, nextHead, sectionBehind}
-use Rattle.records.specs.Line.{endLine, headerLine, stopLine}
+use Rattle.records.specs.Head.{headBytes, sectionBehind}
+use Rattle.records.specs.Line.{headerLine}
 use Rattle.records.specs.Listing.{listing}
-use Rattle.records.specs.Record.{answerOf, nextRecord, recordBehind}
+use Rattle.records.specs.Record.{answerOf, nextRecord, recordBehind, recordOf}
 use Rattle.records.specs.declared.head.Head.{Head}
 use Rattle.records.specs.declared.record.Next.the-variants.{Found}
 use Rattle.records.proofs.Laws.Head.{head-read, length-head}
@@ -23,7 +23,6 @@ use Rattle.days.proofs.Laws.Answer.{answer-bad, answer-many, answer-rea
 use Rattle.days.proofs.Laws.Enough.{records-alike}
 use Rattle.days.proofs.Laws.Filled.{length-slots}
 use Rattle.days.proofs.Laws.Lines.{lastLine, listing-slots}
-use Rattle.days.proofs.Laws.Reached.{recordOf}
 use Rattle.days.proofs.Laws.Records.{records-first}
 use Rattle.days.proofs.Laws.Slot.{slot-some, slot-told}
 
@@ -116,10 +115,10 @@ module _ (file : List ℕ) (table : List (List ℕ)) where
     abbrev Same : Type 0
     Same = (answer cut table ≡ answer file table) × (filled cut table ≡ filled file table)
 
-    both-many : (256 < length (recordsOf cut .answers)) × (256 < length (d .answers)) → Same
+    both-many : (257 ≤ length (recordsOf cut .answers)) × (257 ≤ length (d .answers)) → Same
     both-many more =
-        let left = sym (day-many (recordsOf cut) (length table) (inr (more .0))) in
-        let right = sym (day-many d (length table) (inr (more .1))) in
+        let left = sym (day-many (recordsOf cut) (length table) (inr (omega (arith, more .0)))) in
+        let right = sym (day-many d (length table) (inr (omega (arith, more .1)))) in
         (left ∙ sym right, nothing cut table left ∙ sym (nothing file table right))
 
     enough : Same
@@ -127,7 +126,7 @@ module _ (file : List ℕ) (table : List (List ℕ)) where
         ⊎-elim
         (λ same. (ap (λ (x : DayRecords). dayAnswer x (length table)) same, ap (λ (x : DayRecords). dayTable x table) same))
         both-many
-        (records-alike 256 held file (omega arith))
+        (records-alike 257 held file room)
 
   called : Called file table
   called =

@@ -13,6 +13,7 @@ use Rattle.records.specs.declared.record.Answer.{Answer}
 use Rattle.records.specs.declared.record.Answer.the-variants.{Accepted, Refused}
 use Rattle.records.specs.declared.record.Next.{Next}
 use Rattle.records.specs.declared.record.Next.the-variants.{End, Stop, Found}
+use Rattle.records.specs.declared.record.Record.{Record}
 
 -- "class, units of label, extension bytes, body bytes, section length"; "or .. refusal, place"
 unfoldable pub answerOf : Summarized → Answer
@@ -27,17 +28,20 @@ answerOf (Summarized·Accepted m) =
     })
 answerOf (Summarized·Refused r) = Refused r
 
--- the record behind a head that was found
-unfoldable pub recordBehind : List ℕ → NextHead → Next
-recordBehind s NextHead·End = End
-recordBehind s NextHead·Stop = Stop
-recordBehind s (NextHead·Found h) =
-    Found
-    (record {
+-- the record behind a head
+abbrev pub recordOf : List ℕ → Head → Record
+recordOf s h =
+    record {
       size = bytes (8 + h .length .0);
       «security_first» = h .«security_first»;
       answer = answerOf (summarize (h .«security_first») (sectionBehind h s));
-    })
+    }
+
+-- where one was found
+unfoldable pub recordBehind : List ℕ → NextHead → Next
+recordBehind s NextHead·End = End
+recordBehind s NextHead·Stop = Stop
+recordBehind s (NextHead·Found h) = Found (recordOf s h)
 
 -- the record at the first byte of what is left of the file
 unfoldable pub nextRecord : List ℕ → Next

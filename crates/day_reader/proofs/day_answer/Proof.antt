@@ -1,4 +1,5 @@
 -- The answer picks the case.
+use mathlib.Core.Path.{sym, ap}
 use Rattle.day_reader.specs.Answer.{answered}
 use borrow.Author.Needs.{needs}
 use Rattle.octets.proofs.Laws.Steps.{the}
@@ -12,5 +13,5 @@ day-answer-spec =
     (tie.spec
     (λ c. search needs)
     (λ c. search needs)
-    (λ c. simp (the tie.After-read (search) .read .given .1))
-    (λ c. simp (the tie.After-read2 (search) .read2 .given .1)))
+    (λ c. sym (ap answered (the tie.After-read (search) .read .given .1)))
+    (λ c. sym (ap answered (the tie.After-read2 (search) .read2 .given .1))))

@@ -1,9 +1,9 @@
 -- Which of a file's first bytes are enough: so many of the longest records decide so many records.
-use Prim.Native.Nat.{ℕ, zero, suc, _+_, _*_, _-_, _<_, _≤_}
-use mathlib.Core.Path.{_≡_, refl, sym, ap, subst, _∙_}
+use Prim.Native.Nat.{ℕ, zero, suc, _+_, _*_, _-_, _≤_}
+use mathlib.Core.Path.{_≡_, refl, sym, ap, _∙_}
 use mathlib.Core.Bool.{true, false, true≢false}
 use mathlib.Core.Logic.{_⊎_, inl, inr, ⊎-elim}
-use mathlib.Core.List.{List, [], _∷_}
+use mathlib.Core.List.{List, _∷_}
 use native.Mathlib.Omega.{arith}
 use borrow.Author.Tests.{le-leb}
 use lib.ListN.{length, take, drop}
@@ -18,9 +18,9 @@ use Rattle.records.proofs.Laws.Record.{found-fits}
 use Rattle.days.specs.Day.{DayRecords, recordsAt, recordsOf}
 use Rattle.days.proofs.Laws.Records.{records-first}
 
--- the same records, or more than k in both
+-- the same records, or at least k in both
 abbrev pub Alike : ℕ → DayRecords → DayRecords → Type 0
-Alike k d e = (d ≡ e) ⊎ ((k < length (d .answers)) × (k < length (e .answers)))
+Alike k d e = (d ≡ e) ⊎ ((k ≤ length (d .answers)) × (k ≤ length (e .answers)))
 
 -- the same record stands first in both
 first-same : (held : ℕ) (s : List ℕ) → 8 + 32768 ≤ held → nextRecord (take held s) ≡ nextRecord s
@@ -69,21 +69,13 @@ module _ (held : ℕ) (s : List ℕ) (room : 8 + 32768 ≤ held) where
     unfolding recordsAt
     split = records-first s ∙ ap (recordsAt s recordsOf) e
 
-pub records-alike : (k held : ℕ) (s : List ℕ) → (k + 1) * (8 + 32768) ≤ held → Alike k (recordsOf (take held s)) (recordsOf s)
+pub records-alike : (k held : ℕ) (s : List ℕ) → k * (8 + 32768) ≤ held → Alike k (recordsOf (take held s)) (recordsOf s)
 unfolding recordsAt
-records-alike zero held s room = go (nextRecord s) refl
-  where
-    go : (n : Next) → nextRecord s ≡ n → Alike zero (recordsOf (take held s)) (recordsOf s)
-    go End e = inl (none held s (omega arith) End e refl)
-    go Stop e = inl (none held s (omega arith) Stop e refl)
-    go (Found r) e =
-        let a = ap (λ (d : DayRecords). length (d .answers)) (split-cut held s (omega arith) r e) in
-        let b = ap (λ (d : DayRecords). length (d .answers)) (split held s (omega arith) r e) in
-        inr (omega (arith, a), omega (arith, b))
+records-alike zero held s room = inr (omega arith, omega arith)
 records-alike (suc k) held s room = go (nextRecord s) refl (λ n t h. records-alike k n t h)
   where
     go : (n : Next) → nextRecord s ≡ n
-        → ((n : ℕ) (t : List ℕ) → (k + 1) * (8 + 32768) ≤ n → Alike k (recordsOf (take n t)) (recordsOf t))
+        → ((n : ℕ) (t : List ℕ) → k * (8 + 32768) ≤ n → Alike k (recordsOf (take n t)) (recordsOf t))
         → Alike (suc k) (recordsOf (take held s)) (recordsOf s)
     go End e rest = inl (none held s (omega arith) End e refl)
     go Stop e rest = inl (none held s (omega arith) Stop e refl)

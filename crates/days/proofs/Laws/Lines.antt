@@ -1,7 +1,7 @@
 -- The listing's lines, by the answers on a file's records.
 use Prim.Native.Nat.{ℕ, zero, suc, _+_, _<_}
 use mathlib.Core.Path.{_≡_, refl, sym, ap, ap₂, _∙_}
-use mathlib.Core.Bool.{Bool, true, false, cond}
+use mathlib.Core.Bool.{Bool, cond}
 use mathlib.Core.List.{List, [], _∷_, _++_, append-assoc, map}
 use native.Mathlib.Nat.{zero-add}
 use native.Mathlib.Omega.{arith}
@@ -12,9 +12,8 @@ use Rattle.records.specs.Record.{nextRecord}
 use Rattle.records.specs.declared.record.Answer.{Answer}
 use Rattle.records.specs.declared.record.Next.{Next}
 use Rattle.records.specs.declared.record.Next.the-variants.{End, Stop, Found}
-use Rattle.records.specs.declared.record.Record.{Record}
 use Rattle.days.specs.Day.{DayRecords, recordsAt, recordsOf, slotsOf}
-use Rattle.days.specs.Slot.{answerIn, slotOf}
+use Rattle.days.specs.Slot.{slotOf}
 use Rattle.days.specs.Theorems.{linesIn}
 use Rattle.days.proofs.Laws.Records.{fewer, records-first}
 use Rattle.days.proofs.Laws.Slot.{found-told}

@@ -1,5 +1,5 @@
 -- How far a pass over the file has come: behind its first n records, at an offset.
-use Prim.Native.Nat.{ℕ, suc, _+_, _-_, _<_, _≤_}
+use Prim.Native.Nat.{ℕ, _+_, _-_, _<_, _≤_}
 use mathlib.Core.Path.{_≡_, refl, sym, ap, _∙_}
 use mathlib.Core.Bool.{Bool, true, false}
 use mathlib.Core.List.{List, [], _∷_}
@@ -7,10 +7,8 @@ use native.Mathlib.Omega.{arith}
 use lib.ListN.{length, getD, take, drop, length-drop}
 use lib.Seq.{drop-drop, getD-drop}
 use Rattle.octets.proofs.Laws.Part.{rest-drop}
-use Rattle.rules.specs.Reading.{summarize}
-use Rattle.rules.specs.Refusal.{bytes}
-use Rattle.records.specs.Head.{nextHead, sectionBehind}
-use Rattle.records.specs.Record.{answerOf, nextRecord, recordBehind}
+use Rattle.records.specs.Head.{nextHead}
+use Rattle.records.specs.Record.{nextRecord, recordBehind, recordOf}
 use Rattle.records.specs.declared.head.Head.{Head}
 use Rattle.records.specs.declared.head.NextHead.{NextHead}
 use Rattle.records.specs.declared.head.NextHead.the-variants.{End as NextHead·End, Stop as NextHead·Stop, Found as NextHead·Found}
@@ -21,15 +19,6 @@ use Rattle.records.specs.declared.record.Record.{Record}
 use Rattle.records.proofs.Laws.Record.{found-fits}
 use Rattle.days.specs.Day.{DayRecords, recordsAt, recordsOf}
 use Rattle.days.proofs.Laws.Records.{records-first}
-
--- the record behind a head
-abbrev pub recordOf : List ℕ → Head → Record
-recordOf s h =
-    record {
-      size = bytes (8 + h .length .0);
-      «security_first» = h .«security_first»;
-      answer = answerOf (summarize (h .«security_first») (sectionBehind h s));
-    }
 
 -- the record of what is left, lent from an offset on
 pub next-rest : (s : List ℕ) (at : ℕ) {told x : Next} → told ≡ nextRecord (take (length s - at) (drop at s)) → told ≡ x

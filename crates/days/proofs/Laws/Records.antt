@@ -1,8 +1,7 @@
 -- The records of a file: by its first one, and those behind it.
-use Prim.Native.Nat.{ℕ, zero, suc, _+_, _<_, _≤_}
-use mathlib.Core.Path.{_≡_, refl, ap, _∙_}
-use mathlib.Core.Bool.{true, false}
-use mathlib.Core.List.{List, [], _∷_}
+use Prim.Native.Nat.{ℕ, zero, suc, _<_}
+use mathlib.Core.Path.{_≡_, refl}
+use mathlib.Core.List.{List}
 use native.Mathlib.Omega.{arith}
 use lib.ListN.{length, drop, length-drop}
 use Rattle.records.specs.Record.{nextRecord}
@@ -10,7 +9,7 @@ use Rattle.records.specs.declared.record.Next.{Next}
 use Rattle.records.specs.declared.record.Next.the-variants.{End, Stop, Found}
 use Rattle.records.specs.declared.record.Record.{Record}
 use Rattle.records.proofs.Laws.Record.{found-fits}
-use Rattle.days.specs.Day.{DayRecords, recordsAt, recordsFrom, recordsOf}
+use Rattle.days.specs.Day.{recordsAt, recordsFrom, recordsOf}
 
 -- behind a record there are fewer bytes
 pub fewer : (s : List ℕ) (r : Record) (j : ℕ) → nextRecord s ≡ Found r → length s < suc j → length (drop (r .size .0) s) < j

@@ -1,19 +1,19 @@
 -- The loop's invariant: so many records stand before the offset, and the table has room for them.
 use Prim.Native.Nat.{_+_, _-_, _<_, _≤_}
 use denote.Ref.{now}
-use mathlib.Core.Path.{_≡_, sym, ap, _∙_}
+use mathlib.Core.Path.{_≡_, _∙_}
 use mathlib.Core.Bool.{true, false}
 use mathlib.Core.Logic.{inl, inr}
 use native.Mathlib.Omega.{arith}
 use borrow.Author.Needs.{needs}
 use lib.ListN.{length, drop}
 use Rattle.octets.proofs.Laws.Steps.{the}
-use Rattle.records.specs.Record.{nextRecord}
+use Rattle.records.specs.Record.{nextRecord, recordOf}
 use Rattle.records.specs.declared.record.Next.the-variants.{Found}
 use Rattle.days.specs.Day.{recordsOf}
 use Rattle.days.proofs.Laws.Answer.{day-bad, day-many, day-read}
 use Rattle.days.proofs.Laws.Reached.{Reached, at-end, at-stop, head-end, head-found, head-stop, last-count, last-stops, more}
-use Rattle.days.proofs.Laws.Reached.{reached-next, reached-none, recordOf, size-fits}
+use Rattle.days.proofs.Laws.Reached.{reached-next, reached-none, size-fits}
 use Rattle.days.proofs.count.count_records.Statement.{statement}
 use Rattle.days.proofs.count.count_records.Tie as tie
 

@@ -9,7 +9,6 @@ use lib.ListN.{length, drop}
 use Rattle.octets.proofs.Laws.Steps.{the}
 use Rattle.records.specs.Record.{nextRecord}
 use Rattle.records.specs.declared.record.Next.the-variants.{Found}
-use Rattle.days.specs.Day.{recordsOf}
 use Rattle.days.proofs.Laws.Filled.{Filled, filled-all, filled-next, filled-none}
 use Rattle.days.proofs.Laws.Reached.{at-end, at-stop, more, next-rest, size-fits}
 use Rattle.days.proofs.table.fill.Statement.{statement}

@@ -1,9 +1,8 @@
 -- The number picks the case; where it is 0, the place is where the header begins.
-use mathlib.Core.Path.{_≡_, sym, ap, _∙_}
+use mathlib.Core.Path.{ap}
 use borrow.Author.Needs.{needs}
 use borrow.Author.Tests.{eq-eqb, ne-eqb}
 use Rattle.octets.proofs.Laws.Steps.{the}
-use Rattle.rules.specs.declared.refusal.Refusal.{Refusal}
 use Rattle.reading.specs.Case.{judgedOnce}
 use Rattle.reading.specs.declared.section.Judged.the-variants.{Passed, Refused}
 use Rattle.reading.proofs.Laws.Passed.{none-told, place-told, some-told}

@@ -8,7 +8,7 @@ use Rattle.octets.specs.Part.{within}
 use Rattle.octets.specs.Text.{breakAt, firstBreak, firstZero, isText, lastOnly, unitBytes, units}
 use Rattle.rules.specs.Listed.{classes, listed, retiredHashes}
 use Rattle.rules.specs.Output.{writerAnswer, writerOutput}
-use Rattle.rules.specs.Place.{namePlace, propertiesPlace, propertiesRefusal, sectionRefusal, securityPlace, securityRefusal}
+use Rattle.rules.specs.Place.{nameBreak, namePlace, propertiesPlace, propertiesRefusal, sectionRefusal, securityPlace, securityRefusal}
 use Rattle.rules.specs.Properties.{bodyAt, extensionAt, labelContents, labelText, propertiesFields, propertiesLength, propertiesParts, propertiesSteps, readProperties, propertiesRow}
 use Rattle.rules.specs.Reading.{fieldsAt, headerAt, judge, propertiesNumber, securityHeader, securityNumber, startAt, summarize, summaryAt}
 use Rattle.rules.specs.Refusal.{firstOf}
@@ -31,7 +31,7 @@ use Rattle.examples.specs.Inputs.{image, nothingGiven, properties, secur
 pub examples-hold : map (λ (e : Example). e .told) examples ≡ map (λ (e : Example). e .expected) examples
 unfolding le toLe padded padding within breakAt firstBreak firstZero isText lastOnly unitBytes units classes listed
     bodyAt extensionAt labelContents labelText propertiesFields propertiesLength propertiesParts propertiesSteps
-    readProperties propertiesRow fieldsAt headerAt judge namePlace propertiesPlace propertiesRefusal sectionRefusal
+    readProperties propertiesRow fieldsAt headerAt judge nameBreak namePlace propertiesPlace propertiesRefusal sectionRefusal
     securityPlace securityRefusal propertiesNumber securityHeader securityNumber startAt summarize summaryAt firstOf
     fieldBytes rowBytes allEmpty certAt identityHead identitySize keyAt providerAt providerSize providerText
     readSecurity securityContents securityFields securityLength securityParts securitySteps signatureAt noSecurity

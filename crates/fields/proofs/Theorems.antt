@@ -13,7 +13,7 @@ use Rattle.octets.proofs.Laws.Padding.{le-padded}
 use Rattle.octets.proofs.Laws.Part.{length-within}
 use Rattle.octets.proofs.Laws.Text.{length-units}
 use Rattle.rules.specs.Listed.{listed}
-use Rattle.rules.specs.Place.{headerRefusal, propertiesPlace, propertiesRefusal, securityPlace, securityRefusal}
+use Rattle.rules.specs.Place.{headerRefusal, nameBreak, propertiesPlace, propertiesRefusal, securityPlace, securityRefusal}
 use Rattle.rules.specs.Properties.{labelBytes, propertiesFields, propertiesLength, propertiesParts, propertiesRow}
 use Rattle.rules.specs.Reading.{baseJudge, fieldsAt, headerAt, judge, labelAt, propertiesNumber, providerInfoAt, securityHeader, securityNumber, startAt}
 use Rattle.rules.specs.Refusal.{refusal}
@@ -131,7 +131,7 @@ module _ (first : Bool) (s : List ℕ) where
 
   -- and of an S step
   first-named : (k o : ℕ) → 1 < k → k < 7 → o < 16 → judge first s .number ≡ k
-      → securityPlace k (securityFields s) (providerAt (securityFields s)) (providerInfoAt s) ≡ o
+      → securityPlace k (securityFields s) (providerAt (securityFields s)) (nameBreak (providerInfoAt s)) ≡ o
       → found first s ≡ fieldIn 1 (securityWidths (securityRead s)) o
   unfolding securityRefusal refusedField ofHeader securityLength providerAt certAt signatureAt keyAt
   first-named k o low high l e place =
@@ -196,7 +196,7 @@ module _ (first : Bool) (s : List ℕ) where
   f = securityFields s
 
   -- a 7: the SecurityHeader's number, and its refusal
-  of-seven : judge first s .number ≡ 7 → (first ≡ true) × (judge first s ≡ securityRefusal 7 f (providerInfoAt s)) × (16 ≤ length s)
+  of-seven : judge first s .number ≡ 7 → (first ≡ true) × (judge first s ≡ securityRefusal 7 f (nameBreak (providerInfoAt s))) × (16 ≤ length s)
   unfolding securityRefusal
   of-seven e =
       let a = of-first 7 (omega arith) (omega arith) e in

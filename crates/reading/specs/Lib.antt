@@ -1,4 +1,5 @@
 pub mod Case
 pub mod Fields
+pub mod Held
 pub mod Label
 pub mod Same

@@ -14,7 +14,7 @@ use rules::refusal;
 use rules::section::LIMIT;
 ghost use mathlib.Core.Path.{_≡_};
 ghost use mathlib.Core.List.{[]};
-ghost use Prim.Native.Nat.{_+_, _≤_};
+ghost use Prim.Native.Nat.{_+_, _^_, _≤_, _<_};
 ghost use lib.ListN.{drop, length};
 ghost use Rattle.rules.specs.Properties.{propertiesFields, propertiesParts};
 ghost use Rattle.rules.specs.Reading.{propertiesNumber};
@@ -87,7 +87,7 @@ pub fn properties_fields(s: &[u8], at: Bytes) -> PropertiesFields
 
 pub(crate) fn properties_parts(f: PropertiesFields, at: Bytes) -> PropertiesParts
     requires { ⌜ PropertiesSizes f ⌝ }
-    requires { ⌜ at .0 ≤ limit ⌝ }
+    requires { ⌜ at .0 < 2 ^ 40 ⌝ }
     ensures { λ r. ⌜ r ≡ propertiesParts (at .0) f ⌝ }
 {
     let start = at.0;

@@ -26,12 +26,11 @@ use rules::security::security_length;
 use rules::verdict::Verdicts;
 use rules::verdict::verdicts_of;
 ghost use mathlib.Core.Path.{_≡_};
-ghost use Prim.Native.Nat.{_+_, _≤_};
+ghost use Prim.Native.Nat.{_+_, _^_, _≤_, _<_};
 ghost use lib.ListN.{drop, length};
 ghost use Rattle.octets.specs.Number.{le};
 ghost use Rattle.rules.specs.Properties.{propertiesFields, propertiesParts};
 ghost use Rattle.rules.specs.Reading.{baseJudge, headerAt, judge, read, securityNumber, startAt, summarize, summaryAt};
-ghost use Rattle.rules.specs.Refusal.{limit};
 ghost use Rattle.rules.specs.Summary.{sectionOf, summaryOf, verdictsOf};
 ghost use Rattle.reading.specs.Case.{judgedOnce, readingCase};
 ghost use Rattle.reading.specs.Fields.{PropertiesSizes, startRead};
@@ -140,7 +139,7 @@ pub(crate) fn header_at(s: &[u8], security_first: bool) -> SecurityHeader
     no_security()
 }
 
-fn summary_of(
+pub(crate) fn summary_of(
     security_first: bool,
     security: SecurityHeader,
     properties: PropertiesFields,
@@ -148,7 +147,7 @@ fn summary_of(
 ) -> Summary
     requires { ⌜ verdicts ≡ verdictsOf (security .fields) properties ⌝ }
     requires { ⌜ PropertiesSizes properties ⌝ }
-    requires { ⌜ security .parts .length .0 ≤ limit ⌝ }
+    requires { ⌜ security .parts .length .0 < 2 ^ 40 ⌝ }
     ensures { λ r. ⌜ r ≡ summaryOf «security_first» security properties (propertiesParts (security .parts .length .0) properties) ⌝ }
 {
     Summary {

@@ -22,7 +22,7 @@ ghost use lib.Dec.{eqb};
 ghost use Rattle.octets.specs.Number.{le};
 ghost use Rattle.octets.specs.Padding.{padded};
 ghost use Rattle.rules.specs.Reading.{headerAt, judge, securityNumber, startAt};
-ghost use Rattle.rules.specs.Security.{securityContents, securityFields, securityLength, securityParts};
+ghost use Rattle.rules.specs.Security.{providerText, securityContents, securityFields, securityLength, securityParts};
 ghost use Rattle.rules.specs.Summary.{noSecurity, partOf};
 ghost use Rattle.reading.specs.Fields.{SecuritySizes, securityRead};
 
@@ -97,7 +97,7 @@ fn behind(start: Bytes, size: Bytes) -> Bytes
     Bytes(start.0 + size.0 + padding(size).0)
 }
 
-fn security_parts(f: SecurityFields) -> SecurityParts
+pub(crate) fn security_parts(f: SecurityFields) -> SecurityParts
     requires { ⌜ SecuritySizes f ⌝ }
     ensures { λ r. ⌜ r ≡ securityParts f ⌝ }
 {
@@ -134,7 +134,7 @@ pub fn security_end(s: &[u8]) -> Bytes
 fn contents_number(s: &[u8], f: SecurityFields) -> u32
     requires { ⌜ SecuritySizes f ⌝ }
     ensures { λ r. ⌜ r ≡ securityContents f (partOf (now (s .entry)) (securityParts f .«sender_id»))
-        (partOf (now (s .entry)) (securityParts f .«provider_info»)) ⌝ }
+        (providerText (partOf (now (s .entry)) (securityParts f .«provider_info»))) ⌝ }
 {
     let parts = security_parts(f);
     let identity = within(s, parts.sender_id.start, parts.sender_id.length);
@@ -174,7 +174,7 @@ pub(crate) fn provider_info(s: &[u8], f: SecurityFields) -> &[u8]
 }
 
 // A byte of the identity for ST 1, else 0.
-fn sid_byte(flags: u32, byte: u8) -> u8
+pub(crate) fn sid_byte(flags: u32, byte: u8) -> u8
     ensures { λ r. ⌜ r ≡ cond (eqb (flags % 16) 1) byte 0 ⌝ }
 {
     if flags % AU == 1 {

@@ -6,9 +6,9 @@ use mathlib.Core.List.{List}
 use lib.ListN.{length, getD, drop}
 use lib.Dec.{eqb}
 use Rattle.octets.specs.Number.{le}
-use Rattle.rules.specs.Place.{headerRefusal, sectionRefusal}
+use Rattle.rules.specs.Place.{headerRefusal, nameBreak, sectionRefusal}
 use Rattle.rules.specs.Properties.{propertiesFields, propertiesParts, readProperties}
-use Rattle.rules.specs.Security.{ST, readSecurity, securityFields, securityParts}
+use Rattle.rules.specs.Security.{ST, providerText, readSecurity, securityFields, securityParts}
 use Rattle.rules.specs.Summary.{partOf, noSecurity, summaryOf, labelOf, providerNameOf, sectionOf}
 use Rattle.rules.specs.declared.properties.PropertiesFields.{PropertiesFields}
 use Rattle.rules.specs.declared.refusal.Refusal.{Refusal}
@@ -58,7 +58,7 @@ labelAt s p = partOf s (propertiesParts p (propertiesFields (drop p s)) .label)
 
 -- S1 to S11, where a SecurityHeader stands first
 unfoldable pub securityNumber : Bool → List ℕ → ℕ
-securityNumber first s = cond first (readSecurity (length s) (securityFields s) (identityAt s) (providerInfoAt s)) 0
+securityNumber first s = cond first (readSecurity (length s) (securityFields s) (identityAt s) (providerText (providerInfoAt s))) 0
 
 -- P1 to P7, for a header at p
 unfoldable pub propertiesNumber : List ℕ → ℕ → ℕ
@@ -68,7 +68,7 @@ propertiesNumber s p = readProperties (length s) p (propertiesFields (drop p s))
 unfoldable pub judge : Bool → List ℕ → Refusal
 judge first s =
     let p = startAt first s in
-    sectionRefusal (securityNumber first s) (securityFields s) (providerInfoAt s) (propertiesNumber s p) p (labelAt s p)
+    sectionRefusal (securityNumber first s) (securityFields s) (nameBreak (providerInfoAt s)) (propertiesNumber s p) p (labelAt s p)
 
 -- 01's, with the header for its place
 unfoldable pub baseJudge : Bool → List ℕ → Refusal

@@ -132,17 +132,18 @@ identityHead f identity =
 unfoldable pub providerText : List ℕ → Bool
 providerText info = eqb (length info) 0 || isText (drop 4 info)
 
-unfoldable pub securityContents : SecurityFields → List ℕ → List ℕ → ℕ
-securityContents f identity info =
+-- S10 and S11, where `text` says whether provider info is so
+unfoldable pub securityContents : SecurityFields → List ℕ → Bool → ℕ
+securityContents f identity text =
     cond (not (identityHead f identity)) 6  -- S10
-    (cond (not (providerText info)) 7  -- S11
+    (cond (not text) 7  -- S11
     0)
 
 -- S1 to S11, in an input of n bytes
-unfoldable pub readSecurity : ℕ → SecurityFields → List ℕ → List ℕ → ℕ
-readSecurity n f identity info =
+unfoldable pub readSecurity : ℕ → SecurityFields → List ℕ → Bool → ℕ
+readSecurity n f identity text =
     cond (ltb n 16) 1  -- S1
     (firstOf (securitySteps f)
     (cond (ltb limit (securityLength f)) 8  -- S8
     (cond (ltb n (securityLength f)) 1  -- S9
-    (securityContents f identity info))))
+    (securityContents f identity text))))

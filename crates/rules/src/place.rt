@@ -13,12 +13,12 @@ use octets::text::first_break;
 ghost use mathlib.Core.Path.{_≡_};
 ghost use Prim.Native.Nat.{_+_, _≤_, min};
 ghost use lib.ListN.{length};
-ghost use Rattle.rules.specs.Place.{namePlace, propertiesPlace, refusalAt, securityPlace};
+ghost use Rattle.rules.specs.Place.{nameBreak, namePlace, propertiesPlace, refusalAt, securityPlace};
 ghost use Rattle.rules.specs.Refusal.{limit};
 ghost use Rattle.rules.specs.Security.{providerAt};
 
 // Where the provider info begins, but at most one byte above the limit, so that no sum wraps.
-fn provider_at(f: SecurityFields) -> Bytes
+pub fn provider_at(f: SecurityFields) -> Bytes
     ensures { λ r. ⌜ r .0 ≡ min (limit + 1) (providerAt f) ⌝ }
 {
     security_length(SecurityFields {
@@ -33,14 +33,14 @@ fn provider_at(f: SecurityFields) -> Bytes
 
 // The first unit of the provider's name that breaks the rule.
 fn name_place(f: SecurityFields, info: &[u8]) -> Bytes
-    ensures { λ r. ⌜ r .0 ≡ namePlace (min (limit + 1) (providerAt f)) (now (info .entry)) ⌝ }
+    ensures { λ r. ⌜ r .0 ≡ namePlace (min (limit + 1) (providerAt f)) (nameBreak (now (info .entry))) ⌝ }
 {
     Bytes(provider_at(f).0 + 4 + first_break(provider_name(info)).0)
 }
 
 // Where the field of an S step begins.
 fn security_place(number: u32, f: SecurityFields, info: &[u8]) -> Bytes
-    ensures { λ r. ⌜ r .0 ≡ securityPlace number f (min (limit + 1) (providerAt f)) (now (info .entry)) ⌝ }
+    ensures { λ r. ⌜ r .0 ≡ securityPlace number f (min (limit + 1) (providerAt f)) (nameBreak (now (info .entry))) ⌝ }
 {
     if number == refusal::EMPTY_OR_DP_CLEAR {
         if f.flags / DP % 2 == 0 {
@@ -92,7 +92,7 @@ pub fn section_refusal(
     info: &[u8],
     label: &[u8],
 ) -> Refusal
-    ensures { λ r. ⌜ r ≡ refusalAt «security_first» f (now (info .entry)) (now (label .entry)) number (at .0) ⌝ }
+    ensures { λ r. ⌜ r ≡ refusalAt «security_first» f (nameBreak (now (info .entry))) (now (label .entry)) number (at .0) ⌝ }
 {
     let is_security = security_first & (at.0 == 0);
     if is_security {

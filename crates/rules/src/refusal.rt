@@ -42,6 +42,8 @@ pub const LABEL: u32 = 12;
 
 pub const OUTPUT_SHORT: u32 = 13;
 
+pub const AFTER_THE_FINISH: u32 = 14;
+
 pub const BAD_RECORD: u32 = 15;
 
 pub const TOO_MANY_RECORDS: u32 = 16;

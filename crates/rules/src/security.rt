@@ -241,7 +241,7 @@ fn provider_text_fits(info: &[u8]) -> bool
 
 // S10 and S11
 pub fn security_contents(f: SecurityFields, identity: &[u8], info: &[u8]) -> u32
-    ensures { λ r. ⌜ r ≡ securityContents f (now (identity .entry)) (now (info .entry)) ⌝ }
+    ensures { λ r. ⌜ r ≡ securityContents f (now (identity .entry)) (providerText (now (info .entry))) ⌝ }
 {
     if !identity_head_fits(f, identity) {
         return refusal::IDENTITY;

@@ -2,7 +2,7 @@
 -- MessagePropertiesHeader at p.
 use Prim.Native.Nat.{ℕ, _+_, _-_, _≤_, _<_}
 use mathlib.Core.Path.{_≡_, sym, ap, subst, _∙_}
-use mathlib.Core.Bool.{true, not}
+use mathlib.Core.Bool.{Bool, true, not}
 use mathlib.Core.List.{List, _++_}
 use native.Mathlib.Decide.{decLt}
 use native.Mathlib.Omega.{arith}
@@ -15,7 +15,7 @@ use Rattle.rules.specs.Properties.{labelBytes, propertiesFields, propertiesPart
 use Rattle.rules.specs.Reading.{headerAt, labelAt, propertiesNumber, providerInfoAt, securityHeader, securityNumber}
 use Rattle.rules.specs.Reading.{startAt}
 use Rattle.rules.specs.Row.{rowBits}
-use Rattle.rules.specs.Security.{certAt, identityHead, keyAt, providerAt, readSecurity, securityContents, securityFields, securityLength}
+use Rattle.rules.specs.Security.{certAt, identityHead, keyAt, providerAt, providerText, readSecurity, securityContents, securityFields, securityLength}
 use Rattle.rules.specs.Security.{securityParts, securityRow, signatureAt}
 use Rattle.rules.specs.Summary.{partOf}
 use Rattle.rules.specs.declared.properties.PropertiesFields.{PropertiesFields}
@@ -36,10 +36,10 @@ abbrev pub refusedAt : List ℕ → ℕ → Refusal
 refusedAt s p = propertiesRefusal (propertiesNumber s p) p (labelAt s p)
 
 -- the steps see no more of an identity than its head
-read-head : (n : ℕ) (f : SecurityFields) (x y info : List ℕ) → identityHead f x ≡ identityHead f y
-    → readSecurity n f x info ≡ readSecurity n f y info
+read-head : (n : ℕ) (f : SecurityFields) (x y : List ℕ) (text : Bool) → identityHead f x ≡ identityHead f y
+    → readSecurity n f x text ≡ readSecurity n f y text
 unfolding readSecurity securityContents
-read-head n f x y info e = rw e
+read-head n f x y text e = rw e
 
 module _ {s t : List ℕ} (o : BothOctets s t) (size : length t ≡ length s) where
   -- what reading sees of a SecurityHeader is the same
@@ -82,12 +82,11 @@ module _ {s t : List ℕ} (o : BothOctets s t) (size : length t ≡ length s) wh
     number-same =
         let f = securityFields s in
         let parts = securityParts f in
-        ap (λ (g : SecurityFields). readSecurity (length t) g (partOf t (securityParts g .«sender_id»)) (partOf t (securityParts g .«provider_info»)))
+        ap (λ (g : SecurityFields). readSecurity (length t) g (partOf t (securityParts g .«sender_id»)) (providerText (partOf t (securityParts g .«provider_info»))))
         (sym (e .fields))
-        ∙ ap (λ (n : ℕ). readSecurity n f (partOf t (parts .«sender_id»)) (partOf t (parts .«provider_info»))) size
-        ∙ sym (read-head (length s) f (partOf s (parts .«sender_id»)) (partOf t (parts .«sender_id»)) (partOf t (parts .«provider_info»))
-        (head-same f parts e))
-        ∙ ap (readSecurity (length s) f (partOf s (parts .«sender_id»))) (sym (e .provider))
+        ∙ ap (λ (n : ℕ). readSecurity n f (partOf t (parts .«sender_id»)) (providerText (partOf t (parts .«provider_info»)))) size
+        ∙ sym (read-head (length s) f (partOf s (parts .«sender_id»)) (partOf t (parts .«sender_id»)) _ (head-same f parts e))
+        ∙ ap (λ (i : List ℕ). readSecurity (length s) f (partOf s (parts .«sender_id»)) (providerText i)) (sym (e .provider))
 
     pub start-same : startAt true t ≡ startAt true s
     unfolding startAt headerAt securityHeader securityParts

@@ -11,7 +11,7 @@ use lib.ListN.{length, getD, take, replicate, length-append}
 use lib.Seq.{take-at}
 use Rattle.octets.specs.Padding.{padding}
 use Rattle.rules.specs.Judged.{judged, propertiesBits, securityMask}
-use Rattle.rules.specs.Place.{sectionRefusal, securityPlace, securityRefusal}
+use Rattle.rules.specs.Place.{nameBreak, sectionRefusal, securityPlace, securityRefusal}
 use Rattle.rules.specs.Properties.{labelBytes, propertiesRow}
 use Rattle.rules.specs.Reading.{fieldsAt, fullReading, headerAt, judge, providerInfoAt, read, securityHeader, securityNumber}
 use Rattle.rules.specs.Reading.{startAt, summarize, summaryAt}
@@ -41,7 +41,7 @@ unfolding judge sectionRefusal
 judge-next first s e = rw (eq-eqb (securityNumber first s) 0 e)
 
 judge-first : (first : Bool) (s : List ℕ) → ¬ (securityNumber first s ≡ 0)
-    → judge first s ≡ securityRefusal (securityNumber first s) (securityFields s) (providerInfoAt s)
+    → judge first s ≡ securityRefusal (securityNumber first s) (securityFields s) (nameBreak (providerInfoAt s))
 unfolding judge sectionRefusal
 judge-first first s e = rw (ne-eqb (securityNumber first s) 0 e)
 
@@ -119,9 +119,9 @@ module _ {s t : List ℕ} (o : BothOctets s t) (size : length t ≡ length s) (h
       let some : ¬ (securityNumber true t ≡ 0) = λ z. e (sym number ∙ z) in
       record {
         judged = judge-first true t some
-            ∙ ap (λ (n : ℕ). securityRefusal n (securityFields t) (providerInfoAt t)) number
-            ∙ ap (λ (g : SecurityFields). securityRefusal (securityNumber true s) g (providerInfoAt t)) (sym (first .fields))
-            ∙ ap (securityRefusal (securityNumber true s) f) (info-same o size first)
+            ∙ ap (λ (n : ℕ). securityRefusal n (securityFields t) (nameBreak (providerInfoAt t))) number
+            ∙ ap (λ (g : SecurityFields). securityRefusal (securityNumber true s) g (nameBreak (providerInfoAt t))) (sym (first .fields))
+            ∙ ap (λ (i : List ℕ). securityRefusal (securityNumber true s) f (nameBreak i)) (info-same o size first)
             ∙ sym (judge-first true s e);
         told = other-told t some (omega arith)
             ∙ ap (λ (g : SecurityFields). ks g ++ propertiesHeld (startAt true t) t) (sym (first .fields))

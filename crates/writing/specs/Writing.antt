@@ -6,11 +6,11 @@ use lib.ListN.{length, replicate}
 use lib.Dec.{eqb, ltb}
 use Rattle.octets.specs.Padding.{padding}
 use Rattle.rules.specs.Output.{writerAnswer, writerOutput}
-use Rattle.rules.specs.Place.{headerRefusal, sectionRefusal}
+use Rattle.rules.specs.Place.{headerRefusal, nameBreak, sectionRefusal}
 use Rattle.rules.specs.Properties.{labelContents, propertiesLength, propertiesRow, propertiesSteps}
 use Rattle.rules.specs.Refusal.{bytes, firstOf, limit}
 use Rattle.rules.specs.Row.{rowBytes}
-use Rattle.rules.specs.Security.{partTooLarge, securityContents, securityLength, securityRow, securitySteps}
+use Rattle.rules.specs.Security.{partTooLarge, providerText, securityContents, securityLength, securityRow, securitySteps}
 use Rattle.rules.specs.declared.properties.PropertiesFields.{PropertiesFields}
 use Rattle.rules.specs.declared.refusal.Refusal.{Refusal}
 use Rattle.rules.specs.declared.section.Output.{Output}
@@ -27,7 +27,7 @@ writeSecurity f identity info =
     cond (tooLarge f) 28  -- 28
     (firstOf (securitySteps f)
     (cond (ltb limit (securityLength f)) 8  -- S8
-    (securityContents f identity info)))
+    (securityContents f identity (providerText info))))
 
 -- "Without a SecurityHeader its values and parts are ignored, for 28 too."
 unfoldable pub headerNumber : Bool → SecurityFields → List ℕ → List ℕ → ℕ
@@ -50,7 +50,7 @@ endNumber p f label =
 unfoldable pub judgeGiven : Bool → SecurityFields → List ℕ → List ℕ → PropertiesFields → List ℕ → Refusal
 judgeGiven first f identity info h label =
     let p = startOf first f in
-    sectionRefusal (headerNumber first f identity info) f info (endNumber p h label) p label
+    sectionRefusal (headerNumber first f identity info) f (nameBreak info) (endNumber p h label) p label
 
 -- 01's, with the header for its place
 unfoldable pub baseJudgeGiven : Bool → SecurityFields → List ℕ → List ℕ → PropertiesFields → List ℕ → Refusal

@@ -1,5 +1,5 @@
 -- What the code reads of an input that passed the steps is what the definitions read.
-use Prim.Native.Nat.{ℕ, _+_, _%_, _≤_, _<_, min}
+use Prim.Native.Nat.{ℕ, _+_, _%_, _^_, _≤_, _<_, min}
 use mathlib.Core.Path.{_≡_, refl, sym, ap, _∙_}
 use mathlib.Core.Bool.{Bool, true, false, _&&_, _||_, cond, and-eq-true-iff}
 use mathlib.Core.List.{List, []}
@@ -12,6 +12,7 @@ use Rattle.octets.specs.Number.{le}
 use Rattle.octets.specs.Padding.{padded}
 use Rattle.octets.specs.Part.{within}
 use Rattle.octets.proofs.Laws.Number.{le-cong, le-out}
+use Rattle.octets.proofs.Laws.Padding.{padded-lt}
 use Rattle.octets.proofs.Laws.Part.{getD-within, whole-in, within-none}
 use Rattle.rules.specs.Place.{headerRefusal}
 use Rattle.rules.specs.Properties.{propertiesFields}
@@ -19,9 +20,10 @@ use Rattle.rules.specs.Reading.{baseJudge, fieldsAt, headerAt, judge, securityH
 use Rattle.rules.specs.Refusal.{limit}
 use Rattle.rules.specs.Security.{DE, ST, certAt, keyAt, providerAt, providerSize, securityFields, securityLength, securityParts, signatureAt}
 use Rattle.rules.specs.Summary.{noSecurity, summaryOf}
+use Rattle.rules.specs.declared.security.SecurityFields.{SecurityFields}
 use Rattle.rules.specs.declared.security.SecurityHeader.{SecurityHeader}
 use Rattle.rules.proofs.Laws.Accepted.{HeaderPassed, SectionPassed, header-fits, identity-le, judge-passed, security-number}
-use Rattle.reading.specs.Fields.{propertiesRead, securityRead, startRead}
+use Rattle.reading.specs.Fields.{SecuritySizes, propertiesRead, securityRead, startRead}
 
 pub security-read : (s : List ℕ) → 16 ≤ length s → securityRead s ≡ securityFields s
 unfolding securityRead
@@ -30,6 +32,21 @@ security-read s h = ap securityFields (whole-in 16 s h)
 pub properties-read : (s : List ℕ) (at : ℕ) → at + 56 ≤ length s → propertiesRead s at ≡ propertiesFields (drop at s)
 unfolding propertiesRead
 properties-read s at h = ap propertiesFields (whole-in 56 (drop at s) (rw length-drop (omega arith)))
+
+-- sizes of four bytes each, and their padding
+pub length-small : (f : SecurityFields) → SecuritySizes f → securityLength f < 2 ^ 40
+unfolding securityLength providerAt certAt signatureAt keyAt
+length-small f sizes =
+    let below = padded-lt 4 (omega arith) in
+    omega (
+      arith,
+      sizes,
+      below (f .«sender_id_size» .0),
+      below (f .«encryption_key_size» .0),
+      below (f .«signature_size» .0),
+      below (f .«sender_cert_size» .0),
+      below (f .«provider_info_size» .0),
+    )
 
 -- where the MessagePropertiesHeader begins, once S1 to S11 have passed
 pub record Start (first : Bool) (s : List ℕ) : Type 0 where

@@ -7,7 +7,7 @@ use native.Mathlib.Omega.{arith}
 use borrow.Author.Tests.{eqb-true, ltb-false, ltb-true}
 use lib.ListN.{length, drop}
 use lib.Dec.{eqb, ltb}
-use Rattle.rules.specs.Place.{headerRefusal, propertiesPlace, propertiesRefusal, refusalAt, securityPlace}
+use Rattle.rules.specs.Place.{headerRefusal, nameBreak, propertiesPlace, propertiesRefusal, refusalAt, securityPlace}
 use Rattle.rules.specs.Properties.{propertiesFields, propertiesParts}
 use Rattle.rules.specs.Reading.{baseJudge, judge, labelAt, propertiesNumber, providerInfoAt, securityNumber, startAt}
 use Rattle.rules.specs.Refusal.{limit, refusal}
@@ -50,7 +50,7 @@ module _ (first : Bool) (s : List ℕ) (r : Refusal) (e : r ≡ baseJudge first 
       go false t = let a = of-properties t in omega (arith, a .2, start-passed first s (a .0) .small)
 
   abbrev securityAt : SecurityFields → Refusal
-  securityAt f = refusal (r .number) (securityPlace (r .number) f (min (limit + 1) (providerAt f)) (partOf s (securityParts f .«provider_info»)))
+  securityAt f = refusal (r .number) (securityPlace (r .number) f (min (limit + 1) (providerAt f)) (nameBreak (partOf s (securityParts f .«provider_info»))))
 
   abbrev propertiesAt : PropertiesFields → Refusal
   propertiesAt f = propertiesRefusal (r .number) (min (limit + 1) (r .place .0)) (partOf s (propertiesParts (r .place .0) f .label))
@@ -87,12 +87,13 @@ module _ (first : Bool) (s : List ℕ) (r : Refusal) (e : r ≡ baseJudge first 
 
   -- so what the code finds is the refusal
   pub read-refused : (f : SecurityFields) (h : PropertiesFields) → f ≡ securityRead s → h ≡ propertiesRead s (r .place .0)
-      → refusalAt first f (partOf s (securityParts f .«provider_info»)) (partOf s (propertiesParts (r .place .0) h .label)) (r .number) (r .place .0)
+      → refusalAt first f (nameBreak (partOf s (securityParts f .«provider_info»))) (partOf s (propertiesParts (r .place .0) h .label)) (r .number)
+      (r .place .0)
       ≡ judge first s
   unfolding judge refusalAt
   read-refused f h ef eh =
       same (first && eqb (r .place .0) 0) refl
-      ∙ refused-at first number (securityFields s) (providerInfoAt s) _ start (labelAt s) small (λ z. start-passed first s z .small)
+      ∙ refused-at first number (securityFields s) (nameBreak (providerInfoAt s)) _ start (labelAt s) small (λ z. start-passed first s z .small)
       (behind-header first s) (no-number first s) r told
     where
       small : number ≡ 7 → securitySteps (securityFields s) ≡ 0 → securityLength (securityFields s) ≤ limit

@@ -254,12 +254,12 @@ properties-number first s = (
 )
 
 -- the number of a refusal, with either place
-pub section-number : (n : ℕ) (f : SecurityFields) (info : List ℕ) (m p : ℕ) (label : List ℕ)
-    → sectionRefusal n f info m p label .number ≡ headerRefusal n m p .number
+pub section-number : (n : ℕ) (f : SecurityFields) (break m p : ℕ) (label : List ℕ)
+    → sectionRefusal n f break m p label .number ≡ headerRefusal n m p .number
 unfolding sectionRefusal headerRefusal propertiesRefusal securityRefusal
-section-number n f info m p label = go (eqb n 0)
+section-number n f break m p label = go (eqb n 0)
   where
-    go : (b : Bool) → cond b (propertiesRefusal m p label) (securityRefusal n f info) .number ≡ cond b (refusal m p) (refusal n 0) .number
+    go : (b : Bool) → cond b (propertiesRefusal m p label) (securityRefusal n f break) .number ≡ cond b (refusal m p) (refusal n 0) .number
     go true = refl
     go false = refl
 

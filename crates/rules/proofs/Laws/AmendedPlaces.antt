@@ -15,7 +15,7 @@ use Rattle.octets.proofs.Laws.Part.{length-within}
 use Rattle.octets.proofs.Laws.Text.{first-break, length-units}
 use Rattle.rules.specs.Amended.{AtUnit, PlacesAmended}
 use Rattle.rules.specs.Listed.{classes, listed}
-use Rattle.rules.specs.Place.{headerRefusal, namePlace, propertiesPlace, propertiesRefusal, sectionRefusal, securityPlace, securityRefusal}
+use Rattle.rules.specs.Place.{headerRefusal, nameBreak, namePlace, propertiesPlace, propertiesRefusal, sectionRefusal, securityPlace, securityRefusal}
 use Rattle.rules.specs.Properties.{badAllocation, labelContents, labelText, propertiesFields, propertiesLength, propertiesParts, propertiesSteps, readProperties}
 use Rattle.rules.specs.Reading.{baseJudge, fieldsAt, identityAt, judge, labelAt, propertiesNumber, providerInfoAt, securityNumber, startAt}
 use Rattle.rules.specs.Refusal.{firstOf, limit, refusal}
@@ -123,8 +123,8 @@ provider-even de signature n e some = go (eqb de 1) (ltb 0 signature) e
 name-broken : (s : List ℕ) → securityNumber true s ≡ 7
     → let f = securityFields s in
     securitySteps f ≡ 0
-    → AtUnit s (drop 4 (providerInfoAt s)) (providerAt f + 4) (namePlace (providerAt f) (providerInfoAt s)) (securityLength f)
-unfolding securityNumber readSecurity securityContents providerText securityParts securityLength namePlace
+    → AtUnit s (drop 4 (providerInfoAt s)) (providerAt f + 4) (namePlace (providerAt f) (nameBreak (providerInfoAt s))) (securityLength f)
+unfolding securityNumber readSecurity securityContents providerText securityParts securityLength nameBreak namePlace
 name-broken s e z =
     let f = securityFields s in
     let info = providerInfoAt s in
@@ -172,12 +172,12 @@ security-other false s k high e = omega arith
 
 -- the header's start for 0, 1 and 8
 at-start : (n : ℕ) → listed (0 ∷ 1 ∷ 8 ∷ []) n ≡ true
-    → (propertiesPlace n ≡ λ (label : List ℕ). 0) × (securityPlace n ≡ λ (f : SecurityFields) (at : ℕ) (info : List ℕ). 0)
+    → (propertiesPlace n ≡ λ (label : List ℕ). 0) × (securityPlace n ≡ λ (f : SecurityFields) (at break : ℕ). 0)
 unfolding listed propertiesPlace securityPlace
 at-start n e = go (eqb n 0) (eqb n 1) (eqb n 8) refl refl refl e
   where
     go : (a b c : Bool) → eqb n 0 ≡ a → eqb n 1 ≡ b → eqb n 8 ≡ c → (a || (b || (c || false))) ≡ true
-        → (propertiesPlace n ≡ λ (label : List ℕ). 0) × (securityPlace n ≡ λ (f : SecurityFields) (at : ℕ) (info : List ℕ). 0)
+        → (propertiesPlace n ≡ λ (label : List ℕ). 0) × (securityPlace n ≡ λ (f : SecurityFields) (at break : ℕ). 0)
     go true b c f g h e = (rw (eqb-true n 0 f), rw (eqb-true n 0 f))
     go false true c f g h e = (rw (eqb-true n 1 g), rw (eqb-true n 1 g))
     go false false true f g h e = (rw (eqb-true n 8 h), rw (eqb-true n 8 h))
@@ -191,7 +191,7 @@ module _ (first : Bool) (s : List ℕ) where
   unfolding judge sectionRefusal
   of-properties z = rw (eq-eqb (securityNumber first s) 0 z)
 
-  pub of-security : ¬ (securityNumber first s ≡ 0) → judge first s ≡ securityRefusal (securityNumber first s) (securityFields s) (providerInfoAt s)
+  pub of-security : ¬ (securityNumber first s ≡ 0) → judge first s ≡ securityRefusal (securityNumber first s) (securityFields s) (nameBreak (providerInfoAt s))
   unfolding judge sectionRefusal
   of-security some = rw (ne-eqb (securityNumber first s) 0 some)
 
@@ -229,13 +229,13 @@ module _ (first : Bool) (s : List ℕ) where
           let j = of-security other in
           let seven : securityNumber first s ≡ 7 = sym (ap (λ (r : Refusal). r .number) j) ∙ e in
           let steps = eqb-true (securitySteps f) 0 h in
-          let place = ap (λ (r : Refusal). r .place .0) j ∙ by-text f (providerAt f) (providerInfoAt s) (securityNumber first s) seven steps in
+          let place = ap (λ (r : Refusal). r .place .0) j ∙ by-text f (providerAt f) (nameBreak (providerInfoAt s)) (securityNumber first s) seven steps in
           subst (λ (k : ℕ). AtUnit s (drop 4 (providerInfoAt s)) (providerAt f + 4) k (securityLength f)) (sym place)
           (name-broken s (sym (ap (λ (b : Bool). securityNumber b s) (security-first first s other)) ∙ seven) steps)
       go false false g h =
           let j = of-security (eqb-false (securityNumber first s) 0 g) in
           let seven : securityNumber first s ≡ 7 = sym (ap (λ (r : Refusal). r .number) j) ∙ e in
-          let size = by-size f (providerAt f) (providerInfoAt s) (securityNumber first s) seven (eqb-false (securitySteps f) 0 h) in
+          let size = by-size f (providerAt f) (nameBreak (providerInfoAt s)) (securityNumber first s) seven (eqb-false (securitySteps f) 0 h) in
           absurd (some (ap (λ (r : Refusal). r .place .0) j ∙ size))
 
   header-amended : listed (0 ∷ 1 ∷ 8 ∷ []) (judge first s .number) ≡ true → judge first s ≡ baseJudge first s
@@ -253,7 +253,7 @@ module _ (first : Bool) (s : List ℕ) where
           let j = of-security (eqb-false (securityNumber first s) 0 g) in
           let n = securityNumber first s in
           let here = at-start n (sym (ap (λ (r : Refusal). listed (0 ∷ 1 ∷ 8 ∷ []) (r .number)) j) ∙ e) .1 in
-          let place = ap (λ (g : SecurityFields → ℕ → List ℕ → ℕ). g f (providerAt f) (providerInfoAt s)) here in
+          let place = ap (λ (g : SecurityFields → ℕ → ℕ → ℕ). g f (providerAt f) (nameBreak (providerInfoAt s))) here in
           j ∙ rw (g, place)
 
   pub places-amended : PlacesAmended first s

@@ -16,14 +16,14 @@ use Rattle.rules.proofs.Laws.Accepted.{first-next, passed}
 use Rattle.rules.specs.declared.refusal.Refusal.{Refusal}
 use Rattle.rules.specs.declared.security.SecurityFields.{SecurityFields}
 
-module _ (f : SecurityFields) (at : ℕ) (info : List ℕ) (n : ℕ) (seven : n ≡ 7) where
+module _ (f : SecurityFields) (at break : ℕ) (n : ℕ) (seven : n ≡ 7) where
   -- S11
-  pub by-text : securitySteps f ≡ 0 → securityPlace n f at info ≡ namePlace at info
+  pub by-text : securitySteps f ≡ 0 → securityPlace n f at break ≡ namePlace at break
   unfolding securityPlace
   by-text e = rw (seven, eq-eqb (securitySteps f) 0 e)
 
   -- S7
-  pub by-size : ¬ (securitySteps f ≡ 0) → securityPlace n f at info ≡ 0
+  pub by-size : ¬ (securitySteps f ≡ 0) → securityPlace n f at break ≡ 0
   unfolding securityPlace
   by-size e = rw (seven, ne-eqb (securitySteps f) 0 e)
 
@@ -35,15 +35,15 @@ small-header f rest e z =
     (passed (ltb limit (securityLength f)) 8 (λ q. omega arith) (sym (first-next (securitySteps f) _ z) ∙ e) .0)
 
 -- so the provider info begins no further than the limit, and the code's sum is the place
-pub unclamped : (n : ℕ) (f : SecurityFields) (info : List ℕ) → (n ≡ 7 → securitySteps f ≡ 0 → securityLength f ≤ limit)
-    → refusal n (securityPlace n f (min (limit + 1) (providerAt f)) info) ≡ securityRefusal n f info
+pub unclamped : (n : ℕ) (f : SecurityFields) (break : ℕ) → (n ≡ 7 → securitySteps f ≡ 0 → securityLength f ≤ limit)
+    → refusal n (securityPlace n f (min (limit + 1) (providerAt f)) break) ≡ securityRefusal n f break
 unfolding securityRefusal securityPlace securityLength
-unclamped n f info small = ap (refusal n) (go (eqb n 7) (eqb (securitySteps f) 0) refl refl)
+unclamped n f break small = ap (refusal n) (go (eqb n 7) (eqb (securitySteps f) 0) refl refl)
   where
     go : (b z : Bool) → eqb n 7 ≡ b → eqb (securitySteps f) 0 ≡ z
-        → securityPlace n f (min (limit + 1) (providerAt f)) info ≡ securityPlace n f (providerAt f) info
+        → securityPlace n f (min (limit + 1) (providerAt f)) break ≡ securityPlace n f (providerAt f) break
     go true true e z =
-        ap (λ (at : ℕ). securityPlace n f at info) (omega (arith, small (eqb-true n 7 e) (eqb-true (securitySteps f) 0 z)))
+        ap (λ (at : ℕ). securityPlace n f at break) (omega (arith, small (eqb-true n 7 e) (eqb-true (securitySteps f) 0 z)))
     go true false e z = rw (e, z)
     go false z e _ = rw e
 
@@ -81,20 +81,20 @@ module _ (first : Bool) (n m p : ℕ) (long : first ≡ true → 0 < p) (none : 
           absurd (eqb-false n 0 f (none second))
 
 -- so what the code finds is the refusal; the label is the one at the place
-module _ (first : Bool) (n : ℕ) (f : SecurityFields) (info : List ℕ) (m p : ℕ) (label : ℕ → List ℕ)
+module _ (first : Bool) (n : ℕ) (f : SecurityFields) (break m p : ℕ) (label : ℕ → List ℕ)
     (small : n ≡ 7 → securitySteps f ≡ 0 → securityLength f ≤ limit) (start : n ≡ 0 → p ≤ limit) where
   pub refused-at : (first ≡ true → 0 < p) → (first ≡ false → n ≡ 0) → (r : Refusal) → r ≡ headerRefusal n m p
-      → refusalAt first f info (label (r .place .0)) (r .number) (r .place .0) ≡ sectionRefusal n f info m p (label p)
+      → refusalAt first f break (label (r .place .0)) (r .number) (r .place .0) ≡ sectionRefusal n f break m p (label p)
   unfolding refusalAt sectionRefusal
   refused-at long none r e = go (first && eqb (r .place .0) 0) refl
     where
       go : (b : Bool) → (first && eqb (r .place .0) 0) ≡ b
-          → cond b (refusal (r .number) (securityPlace (r .number) f (min (limit + 1) (providerAt f)) info))
+          → cond b (refusal (r .number) (securityPlace (r .number) f (min (limit + 1) (providerAt f)) break))
           (propertiesRefusal (r .number) (min (limit + 1) (r .place .0)) (label (r .place .0)))
-          ≡ sectionRefusal n f info m p (label p)
+          ≡ sectionRefusal n f break m p (label p)
       go true t =
           let a = in-security first n m p long none r e t in
-          rw (a .2, ne-eqb n 0 (a .1)) (unclamped n f info small)
+          rw (a .2, ne-eqb n 0 (a .1)) (unclamped n f break small)
       go false t =
           let a = in-properties first n m p long none r e t in
           let at : min (limit + 1) (r .place .0) ≡ p = omega (arith, a .2, start (a .0)) in

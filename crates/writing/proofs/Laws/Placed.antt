@@ -8,7 +8,7 @@ use native.Mathlib.Omega.{arith}
 use borrow.Author.Tests.{eq-eqb, eqb-true, le-ltb, ltb-false, not-false}
 use lib.ListN.{length}
 use lib.Dec.{eqb, ltb}
-use Rattle.rules.specs.Place.{headerRefusal, refusalAt}
+use Rattle.rules.specs.Place.{headerRefusal, nameBreak, refusalAt}
 use Rattle.rules.specs.Properties.{labelContents, labelText, propertiesLength, propertiesSteps}
 use Rattle.rules.specs.Refusal.{bytes, limit}
 use Rattle.rules.specs.Security.{certAt, identityHead, keyAt, providerAt, providerText, securityContents, securityLength, securitySteps, signatureAt}
@@ -156,10 +156,10 @@ no-number false f identity info e = refl
 
 -- so the place of 01's refusal says which header's step has failed
 pub given-refused : (g : Given) (r : Refusal) → r ≡ baseWriteRefusal g
-    → refusalAt (g .values .«security_first») (securityGiven g) (g .providerInfo) (g .label) (r .number) (r .place .0) ≡ writeRefusal g
+    → refusalAt (g .values .«security_first») (securityGiven g) (nameBreak (g .providerInfo)) (g .label) (r .number) (r .place .0) ≡ writeRefusal g
 unfolding judgeGiven baseJudgeGiven
 given-refused g r e =
     let first = g .values .«security_first» in
     let f = securityGiven g in
-    refused-at first (number g) f (g .providerInfo) _ (start g) (λ _. g .label) (header-small first f (g .senderId) (g .providerInfo))
+    refused-at first (number g) f (nameBreak (g .providerInfo)) _ (start g) (λ _. g .label) (header-small first f (g .senderId) (g .providerInfo))
     (header-start first g) (behind-header first f) (no-number first f (g .senderId) (g .providerInfo)) r e

@@ -5,7 +5,7 @@ use mathlib.Core.Path.{ap₂, _∙_}
 use mathlib.Core.List.{List}
 use borrow.Author.Needs.{needs}
 use Rattle.octets.proofs.Laws.Steps.{the}
-use Rattle.rules.specs.Place.{refusalAt}
+use Rattle.rules.specs.Place.{nameBreak, refusalAt}
 use Rattle.reading.proofs.Laws.Located.{place-small, read-refused}
 use Rattle.reading.proofs.section.placed.Statement.{statement}
 use Rattle.reading.proofs.section.placed.Tie as tie
@@ -15,7 +15,7 @@ returns c =
     let a = the tie.Start (search) .args in
     let r = a .judged in
     let fields = the tie.After-security-fields (search) .security-fields in
-    let given = ap₂ (λ (i l : List ℕ). refusalAt (a .security-first) (fields .result) i l (r .number) (r .place .0))
+    let given = ap₂ (λ (i l : List ℕ). refusalAt (a .security-first) (fields .result) (nameBreak i) l (r .number) (r .place .0))
     (the tie.After-provider-info (search) .provider-info .ensures) (the tie.After-label-at (search) .label-at .ensures) in
     c .section-refusal .ensures
     ∙ given

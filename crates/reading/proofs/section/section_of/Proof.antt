@@ -28,7 +28,7 @@ verdicts : (c : tie.After-fields-at) →
 verdicts c = rw (c .fields-at .ensures .0) (the tie.Start (search) .pre .1 .1)
 
 summary-of-requires : tie.Need-summary-of-requires
-summary-of-requires c κs = (verdicts c, (c .fields-at .ensures .1, place (search) .small))
+summary-of-requires c κs = (verdicts c, (c .fields-at .ensures .1, omega (arith, place (search) .small)))
 
 add : tie.Need-add-t9
 add c = omega (arith, place (search))

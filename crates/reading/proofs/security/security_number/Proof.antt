@@ -8,7 +8,7 @@ use lib.ListN.{length}
 use Rattle.octets.proofs.Laws.Steps.{steps, the, told}
 use Rattle.rules.specs.Reading.{securityNumber}
 use Rattle.rules.specs.Refusal.{firstOf, limit}
-use Rattle.rules.specs.Security.{readSecurity, securityContents, securityFields, securityLength, securityParts, securitySteps}
+use Rattle.rules.specs.Security.{providerText, readSecurity, securityContents, securityFields, securityLength, securityParts, securitySteps}
 use Rattle.rules.specs.Summary.{partOf}
 use Rattle.rules.specs.declared.security.SecurityFields.{SecurityFields}
 use borrow.Author.Needs.{needs}
@@ -67,7 +67,7 @@ returns-5 c =
     subst
     (λ (g : SecurityFields).
     c .contents-number .result
-    ≡ securityContents g (partOf s (securityParts g .«sender_id»)) (partOf s (securityParts g .«provider_info»)))
+    ≡ securityContents g (partOf s (securityParts g .«sender_id»)) (providerText (partOf s (securityParts g .«provider_info»))))
     (fields (search)) (c .contents-number .ensures) in
     search (steps, told) depth 20
 

@@ -6,12 +6,12 @@ use native.Mathlib.Omega.{arith}
 use borrow.Author.Needs.{needs}
 use Rattle.octets.specs.Text.{breakAt}
 use Rattle.octets.proofs.Laws.Steps.{the}
-use Rattle.rules.specs.Place.{namePlace}
+use Rattle.rules.specs.Place.{nameBreak, namePlace}
 use Rattle.rules.proofs.place.name_place.Statement.{statement}
 use Rattle.rules.proofs.place.name_place.Tie as tie
 
 pub name-place-spec : {M : Type 1} → statement M
-unfolding namePlace
+unfolding nameBreak namePlace
 name-place-spec =
     tie.close
     (tie.spec

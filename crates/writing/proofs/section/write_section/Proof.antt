@@ -3,7 +3,7 @@ use denote.Ref.{now}
 use mathlib.Core.Path.{_≡_, sym, ap, _∙_}
 use Rattle.octets.proofs.Laws.Steps.{the}
 use Rattle.rules.specs.Output.{writerOutput}
-use Rattle.rules.specs.Place.{refusalAt}
+use Rattle.rules.specs.Place.{nameBreak, refusalAt}
 use Rattle.rules.specs.declared.refusal.Refusal.{Refusal}
 use Rattle.rules.specs.declared.section.Output.{Output}
 use Rattle.rules.specs.declared.section.Output.the-variants.{Refused}
@@ -42,7 +42,7 @@ refused c =
     let r = past .judge .result in
     let made = the tie.After-security-given (search) .security-given .ensures in
     c .section-refusal .ensures
-    ∙ ap (λ (f : SecurityFields). refusalAt (g .values .«security_first») f (g .providerInfo) (g .label) (r .number) (r .place .0)) made
+    ∙ ap (λ (f : SecurityFields). refusalAt (g .values .«security_first») f (nameBreak (g .providerInfo)) (g .label) (r .number) (r .place .0)) made
     ∙ given-refused g r (judged past)
 
 returns : tie.Need-returns

@@ -12,4 +12,4 @@ pub mod request;
 pub mod section;
 pub mod send;
 pub mod write;
-mod zero;
+pub mod zero;

@@ -13,7 +13,7 @@ ghost use mathlib.Core.Path.{_≡_};
 ghost use Rattle.rules.specs.Security.{part};
 ghost use Rattle.ugbariteyo.specs.Zero.{noProperties, noRefusal, noSection, noSummary};
 
-pub(crate) fn no_refusal() -> Refusal
+pub fn no_refusal() -> Refusal
     ensures { λ r. ⌜ r ≡ noRefusal ⌝ }
 {
     Refusal {
@@ -48,7 +48,7 @@ fn no_properties() -> PropertiesFields
     }
 }
 
-fn no_summary() -> Summary
+pub fn no_summary() -> Summary
     ensures { λ r. ⌜ r ≡ noSummary ⌝ }
 {
     let none = no_part();

@@ -27,7 +27,7 @@ use Rattle.rules.proofs.Laws.Accepted.{first-next, judge-number, passed
 use Rattle.rules.proofs.Laws.Place.{by-size, by-text, security-first}
 
 -- a list of steps that did not give the number k: it passed, and the steps after it give it
-first-other : (steps next k : ℕ) → ¬ (steps ≡ k) → firstOf steps next ≡ k → (steps ≡ 0) × (next ≡ k)
+pub first-other : (steps next k : ℕ) → ¬ (steps ≡ k) → firstOf steps next ≡ k → (steps ≡ 0) × (next ≡ k)
 unfolding firstOf
 first-other steps next k other e = go (eqb steps 0) refl e
   where
@@ -61,7 +61,7 @@ not-text n b e = go (eqb n 0) refl e
     go false f e = (positive n (eqb-false n 0 f), e)
 
 -- P2 to P4 give none of these numbers
-steps-other : (f : PropertiesFields) (k : ℕ) → ¬ (9 ≡ k) → ¬ (10 ≡ k) → ¬ (11 ≡ k) → ¬ (0 ≡ k) → ¬ (propertiesSteps f ≡ k)
+pub steps-other : (f : PropertiesFields) (k : ℕ) → ¬ (9 ≡ k) → ¬ (10 ≡ k) → ¬ (11 ≡ k) → ¬ (0 ≡ k) → ¬ (propertiesSteps f ≡ k)
 unfolding propertiesSteps
 steps-other f k nine ten eleven some e =
     let p3 = passed (ltb 250 (f .«label_length» .0)) 9 nine e .1 in
@@ -103,7 +103,7 @@ module _ (s : List ℕ) (p : ℕ) where
       omega arith
 
 -- S7: provider info is of whole units behind its type
-provider-even : (de signature n : ℕ) → providerSize de signature n ≡ true → 0 < n → (n % 2 ≡ 0) × (6 ≤ n)
+pub provider-even : (de signature n : ℕ) → providerSize de signature n ≡ true → 0 < n → (n % 2 ≡ 0) × (6 ≤ n)
 unfolding providerSize
 provider-even de signature n e some = go (eqb de 1) (ltb 0 signature) e
   where

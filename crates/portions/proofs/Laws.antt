@@ -1,0 +1,11 @@
+pub mod Answer
+pub mod Call
+pub mod Header
+pub mod Judge
+pub mod Late
+pub mod Lists
+pub mod Name
+pub mod Places
+pub mod Properties
+pub mod State
+pub mod Window

@@ -1,0 +1,7 @@
+pub mod Calls
+pub mod Finish
+pub mod Name
+pub mod Portion
+pub mod State
+pub mod Theorems
+pub mod Window

@@ -1,18 +1,36 @@
--- The answers on a portion and on the finish as one struct each: the refusal, and what is counted and judged beside it.
+-- The state and the answers as C has them: the state one struct, an answer the refusal and the summary beside it.
+use Prim.Native.Nat.{ℕ}
+use mathlib.Core.Bool.{cond}
+use mathlib.Core.List.{List}
+use Rattle.rules.specs.declared.refusal.Refusal.{Refusal}
 use Rattle.rules.specs.declared.section.Summarized.{Summarized}
 use Rattle.rules.specs.declared.section.Summarized.the-variants.{Accepted, Refused}
+use Rattle.portions.specs.Finish.{finishedProgress}
 use Rattle.portions.specs.declared.portion.PortionAnswer.{PortionAnswer}
 use Rattle.portions.specs.declared.portion.PortionAnswer.the-variants.{Taken, Refused as Portion·Refused}
-use Rattle.portions.specs.declared.state.Progress.{Progress}
+use Rattle.portions.specs.declared.state.State.{State}
 use Rattle.ugbariteyo.specs.Zero.{noRefusal, noSummary}
-use Rattle.portion_reader.specs.declared.UgbFed.{UgbFed}
-use Rattle.portion_reader.specs.declared.UgbFinished.{UgbFinished}
+use Rattle.portion_reader.specs.Counters.{countersOf, progressOf}
+use Rattle.portion_reader.specs.declared.UgbPortions.{UgbPortions}
+use Rattle.portion_reader.specs.declared.UgbSummarized.{UgbSummarized}
 
--- of a portion to a state with this progress, which a refused one leaves as it is
-unfoldable pub fedAnswer : Progress → PortionAnswer → UgbFed
-fedAnswer before (Taken after) = record { refusal = noRefusal; progress = after }
-fedAnswer before (Portion·Refused r) = record { refusal = r; progress = before }
+unfoldable pub stateAnswer : State → UgbPortions
+stateAnswer x =
+    record { counters = countersOf (x .progress); head = x .head; «provider_type» = x .«provider_type»; properties = x .properties }
 
-unfoldable pub finishedAnswer : Progress → Summarized → UgbFinished
-finishedAnswer after (Accepted m) = record { refusal = noRefusal; progress = after; summary = m }
-finishedAnswer after (Refused r) = record { refusal = r; progress = after; summary = noSummary }
+unfoldable pub portionRefusal : PortionAnswer → Refusal
+portionRefusal (Taken p) = noRefusal
+portionRefusal (Portion·Refused r) = r
+
+-- the counters after a portion: refused, it "changes nothing"
+unfoldable pub portionCounters : List ℕ → PortionAnswer → List ℕ
+portionCounters c (Taken p) = countersOf p
+portionCounters c (Portion·Refused r) = c
+
+unfoldable pub summarizedAnswer : Summarized → UgbSummarized
+summarizedAnswer (Accepted m) = record { refusal = noRefusal; summary = m }
+summarizedAnswer (Refused r) = record { refusal = r; summary = noSummary }
+
+-- the counters after a finish: the second one changes nothing
+unfoldable pub finishCounters : List ℕ → List ℕ
+finishCounters c = let p = progressOf c in cond (p .finished) c (countersOf (finishedProgress p))

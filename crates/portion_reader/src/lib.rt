@@ -1,11 +1,13 @@
 // A section in portions, for C. In an archive of its own, where what it shares with the reader has this one caller and
-// becomes part of it. The state is one struct to C; a portion is handed its counters by value and its bytes by reference.
-use portions::finish::Finished;
+// becomes part of it. The state is one struct to C, of which each call is lent the members.
+mod counters;
+
+use crate::counters::COUNTERS;
+use crate::counters::counters_of;
+use crate::counters::progress_of;
 use portions::finish::finish;
 use portions::portion::PortionAnswer;
 use portions::portion::portion;
-use portions::state::Progress;
-use portions::state::State;
 use portions::state::start;
 use rules::refusal::Refusal;
 use rules::section::Summarized;
@@ -14,78 +16,86 @@ use ugbariteyo::zero::no_refusal;
 use ugbariteyo::zero::no_summary;
 ghost use mathlib.Core.Path.{_≡_};
 ghost use mathlib.Core.List.{[]};
-ghost use Rattle.portions.specs.Finish.{finishAnswer, finishedProgress};
+ghost use Rattle.portions.specs.Finish.{finishAnswer};
 ghost use Rattle.portions.specs.Portion.{portionAnswer, portionState};
 ghost use Rattle.portions.specs.State.{stateOf, stateWith};
-ghost use Rattle.portion_reader.specs.Answer.{fedAnswer, finishedAnswer};
+ghost use Rattle.portion_reader.specs.Answer.{finishCounters, portionCounters, portionRefusal, stateAnswer, summarizedAnswer};
+ghost use Rattle.portion_reader.specs.Counters.{progressOf};
 
 #[repr(C)]
-pub struct UgbFed {
-    pub refusal: Refusal,
-    pub progress: Progress,
+pub struct UgbPortions {
+    pub counters: [usize; COUNTERS],
+    pub head: [u8; 18],
+    pub provider_type: [u8; 4],
+    pub properties: [u8; 556],
 }
 
 #[repr(C)]
-pub struct UgbFinished {
+pub struct UgbSummarized {
     pub refusal: Refusal,
-    pub progress: Progress,
     pub summary: Summary,
 }
 
 #[no_mangle]
-pub extern "C" fn ugb_start(security_first: bool) -> State
-    ensures { λ r. ⌜ r ≡ stateOf «security_first» [] ⌝ }
+pub extern "C" fn ugb_start(security_first: bool) -> UgbPortions
+    ensures { λ r. ⌜ r ≡ stateAnswer (stateOf «security_first» []) ⌝ }
 {
-    start(security_first)
+    let state = start(security_first);
+    let head = state.head;
+    let provider_type = state.provider_type;
+    let properties = state.properties;
+    UgbPortions {
+        counters: counters_of(state.progress),
+        head,
+        provider_type,
+        properties,
+    }
 }
 
 #[no_mangle]
 pub extern "C" fn ugb_portion_positional(
-    progress: Progress,
+    counters: &mut [usize; COUNTERS],
     head: &mut [u8; 18],
     provider_type: &mut [u8; 4],
     properties: &mut [u8; 556],
     bytes: &[u8],
-) -> UgbFed
-    ensures { λ r. ⌜ r ≡ fedAnswer progress (portionAnswer (stateWith progress (now (head .entry)) (now («provider_type» .entry))
-        (now (properties .entry))) (now (bytes .entry))) ⌝ }
-    ensures { λ _. ⌜ now (head .exit) ≡ portionState (stateWith progress (now (head .entry)) (now («provider_type» .entry))
-        (now (properties .entry))) (now (bytes .entry)) .head ⌝ }
-    ensures { λ _. ⌜ now («provider_type» .exit) ≡ portionState (stateWith progress (now (head .entry)) (now («provider_type» .entry))
-        (now (properties .entry))) (now (bytes .entry)) .«provider_type» ⌝ }
-    ensures { λ _. ⌜ now (properties .exit) ≡ portionState (stateWith progress (now (head .entry)) (now («provider_type» .entry))
-        (now (properties .entry))) (now (bytes .entry)) .properties ⌝ }
+) -> Refusal
+    ensures { λ r. ⌜ r ≡ portionRefusal (portionAnswer (stateWith (progressOf (now (counters .entry))) (now (head .entry))
+        (now («provider_type» .entry)) (now (properties .entry))) (now (bytes .entry))) ⌝ }
+    ensures { λ _. ⌜ now (counters .exit) ≡ portionCounters (now (counters .entry)) (portionAnswer (stateWith (progressOf (now (counters .entry)))
+        (now (head .entry)) (now («provider_type» .entry)) (now (properties .entry))) (now (bytes .entry))) ⌝ }
+    ensures { λ _. ⌜ now (head .exit) ≡ portionState (stateWith (progressOf (now (counters .entry))) (now (head .entry))
+        (now («provider_type» .entry)) (now (properties .entry))) (now (bytes .entry)) .head ⌝ }
+    ensures { λ _. ⌜ now («provider_type» .exit) ≡ portionState (stateWith (progressOf (now (counters .entry))) (now (head .entry))
+        (now («provider_type» .entry)) (now (properties .entry))) (now (bytes .entry)) .«provider_type» ⌝ }
+    ensures { λ _. ⌜ now (properties .exit) ≡ portionState (stateWith (progressOf (now (counters .entry))) (now (head .entry))
+        (now («provider_type» .entry)) (now (properties .entry))) (now (bytes .entry)) .properties ⌝ }
 {
+    let progress = progress_of(counters);
     match portion(progress, head, provider_type, properties, bytes) {
         PortionAnswer::Taken(after) => {
-            return UgbFed {
-                refusal: no_refusal(),
-                progress: after,
-            };
+            *counters = counters_of(after);
+            return no_refusal();
         }
         PortionAnswer::Refused(refusal) => {
-            return UgbFed { refusal, progress };
+            return refusal;
         }
     }
 }
 
-fn finished_answer(finished: Finished) -> UgbFinished
-    ensures { λ r. ⌜ r ≡ finishedAnswer (finished .progress) (finished .answer) ⌝ }
+fn summarized(answer: Summarized) -> UgbSummarized
+    ensures { λ r. ⌜ r ≡ summarizedAnswer answer ⌝ }
 {
-    let progress = finished.progress;
-    let answer = finished.answer;
     match answer {
         Summarized::Accepted(summary) => {
-            return UgbFinished {
+            return UgbSummarized {
                 refusal: no_refusal(),
-                progress,
                 summary,
             };
         }
         Summarized::Refused(refusal) => {
-            return UgbFinished {
+            return UgbSummarized {
                 refusal,
-                progress,
                 summary: no_summary(),
             };
         }
@@ -94,13 +104,21 @@ fn finished_answer(finished: Finished) -> UgbFinished
 
 #[no_mangle]
 pub extern "C" fn ugb_finish_positional(
-    progress: Progress,
+    counters: &mut [usize; COUNTERS],
     head: &[u8; 18],
     provider_type: &[u8; 4],
     properties: &[u8; 556],
-) -> UgbFinished
-    ensures { λ r. ⌜ r ≡ finishedAnswer (finishedProgress progress) (finishAnswer (stateWith progress (now (head .entry))
+) -> UgbSummarized
+    ensures { λ r. ⌜ r ≡ summarizedAnswer (finishAnswer (stateWith (progressOf (now (counters .entry))) (now (head .entry))
         (now («provider_type» .entry)) (now (properties .entry)))) ⌝ }
+    ensures { λ _. ⌜ now (counters .exit) ≡ finishCounters (now (counters .entry)) ⌝ }
 {
-    finished_answer(finish(progress, head, provider_type, properties))
+    let progress = progress_of(counters);
+    let finished = finish(progress, head, provider_type, properties);
+    let answer = finished.answer;
+    if progress.finished {
+        return summarized(answer);
+    }
+    *counters = counters_of(finished.progress);
+    summarized(answer)
 }

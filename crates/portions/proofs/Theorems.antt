@@ -6,11 +6,13 @@ use mathlib.Core.List.{List, [], _∷_, _++_, append-assoc, append-nil}
 use Rattle.rules.specs.Reading.{summarize}
 use Rattle.rules.specs.declared.section.Summarized.the-variants.{Accepted}
 use Rattle.rules.specs.declared.section.Summary.{Summary}
+use Rattle.secrecy.specs.WithoutName.{SameWithoutName}
+use Rattle.secrecy.proofs.WithoutName.{without-name}
 use Rattle.portions.specs.Calls.{Call, portion, finish, after, afterAll, finishes, joined, made}
 use Rattle.portions.specs.Finish.{finishAnswer, finishState, finishedProgress, heldLabel}
 use Rattle.portions.specs.Portion.{portionAnswer, portionState}
 use Rattle.portions.specs.State.{fed, stateOf}
-use Rattle.portions.specs.Theorems.{Going, Over, SlowLink}
+use Rattle.portions.specs.Theorems.{Going, Over, SameHere, SlowLink}
 use Rattle.portions.specs.declared.portion.PortionAnswer.the-variants.{Taken}
 use Rattle.portions.specs.declared.state.Progress.{Progress}
 use Rattle.portions.specs.declared.state.State.{State}
@@ -94,9 +96,36 @@ module _ (first : Bool) (cs : List Call) (e : finishes cs ≡ false) where
             taken-answer x t runs ∙ ap (λ (y : State). Taken (y .progress)) (sym (taken-state x t runs));
       }
 
+module _ (first : Bool) (cs ds : List Call) (e : finishes cs ≡ false) (d : finishes ds ≡ false) where
+  abbrev left : Going first cs
+  left = going first cs e
+
+  abbrev right : Going first ds
+  right = going first ds d
+
+  here : SameHere (made first cs) (made first ds) → SameWithoutName first (joined cs) (joined ds)
+  here x =
+      let m = x .summary in
+      let l = sym (left .answer) ∙ x .left in
+      let r = sym (right .answer) ∙ x .right in
+      record { summary = m; left = l; right = r; label = sym (left .label m l) ∙ x .label ∙ right .label m r }
+
+  there : SameWithoutName first (joined cs) (joined ds) → SameHere (made first cs) (made first ds)
+  there x =
+      let m = x .summary in
+      record {
+        summary = m;
+        left = left .answer ∙ x .left;
+        right = right .answer ∙ x .right;
+        label = left .label m (x .left) ∙ x .label ∙ sym (right .label m (x .right));
+      }
+
 pub slow-link : SlowLink
 slow-link =
     record {
       going = going;
       over = λ first cs e. over-state (made first cs) (over-closed (stateOf first []) cs e);
+      same = λ first cs ds m n e d oc od ec ed.
+          let both = without-name .same first (joined cs) (joined ds) m n oc od ec ed in
+          (λ x. both .0 (here first cs ds e d x), λ a. there first cs ds e d (both .1 a));
     }

@@ -3,8 +3,7 @@ use octets::count::Units;
 use octets::number::u16_of;
 use rules::section::LIMIT;
 ghost use mathlib.Core.Path.{_≡_};
-ghost use mathlib.Core.List.{[], _∷_};
-ghost use Rattle.octets.specs.Number.{le};
+ghost use mathlib.Core.Bool.{false};
 ghost use Rattle.portions.specs.Name.{named, withByte, withUnit};
 
 // How many units came before the first zero unit, whether that came, and a unit's low byte whose high byte has not come.
@@ -45,15 +44,33 @@ fn with_byte(name: NameProgress, byte: u8) -> NameProgress
     }
 }
 
+// Bytes that begin with a unit's low byte: by whole units, and maybe the low byte of one more.
+fn with_units(name: NameProgress, part: &[u8]) -> NameProgress
+    requires { ⌜ name .odd ≡ false ⌝ }
+    ensures { λ r. ⌜ r ≡ named name (now (part .entry)) ⌝ }
+{
+    let n = part.len() / 2;
+    let mut judged = name;
+    let mut i = 0;
+    while i < n {
+        judged = with_unit(judged, u16_of(part[2 * i], part[2 * i + 1]));
+        i += 1;
+    }
+    if 2 * n < part.len() {
+        return with_byte(judged, part[2 * n]);
+    }
+    judged
+}
+
 // The bytes of the name that a portion brings.
 pub(crate) fn with_bytes(name: NameProgress, part: &[u8]) -> NameProgress
     ensures { λ r. ⌜ r ≡ named name (now (part .entry)) ⌝ }
 {
-    let mut judged = name;
-    let mut i = 0;
-    while i < part.len() {
-        judged = with_byte(judged, part[i]);
-        i += 1;
+    if part.len() == 0 {
+        return name;
     }
-    judged
+    if name.odd {
+        return with_units(with_byte(name, part[0]), &part[1..]);
+    }
+    with_units(name, part)
 }

@@ -6,8 +6,10 @@ pub mod Properties
 pub mod Proposed
 pub mod ReadAlike
 pub mod Refused
+pub mod Renamed
 pub mod SameBytes
 pub mod Section
 pub mod Security
 pub mod ToldAlike
 pub mod Unread
+pub mod WithoutName

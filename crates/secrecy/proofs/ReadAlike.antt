@@ -79,7 +79,7 @@ module _ (s t : List ℕ) (h : SecurityHeader) (a : SecurityPassed s h) (e : Sam
       }
 
 -- and so it is with the MessagePropertiesHeader
-properties-reads : (first : Bool) (s t : List ℕ) (m : Summary) → PropertiesPassed first s m
+pub properties-reads : (first : Bool) (s t : List ℕ) (m : Summary) → PropertiesPassed first s m
     → SameProperties (propertiesAt m) (m .parts) s t → m .parts .«section_length» .0 ≤ length t → PropertiesPassed first t m
 unfolding labelOf propertiesLength padded
 properties-reads first s t m a e room =

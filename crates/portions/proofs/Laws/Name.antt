@@ -2,7 +2,7 @@
 use Prim.Native.Nat.{ℕ, zero, suc, _+_, _*_, _-_, _/_, _%_, _≤_, _<_, min}
 use mathlib.Core.Path.{_≡_, refl, sym, ap, _∙_}
 use mathlib.Core.List.{List, [], _∷_, _++_}
-use mathlib.Core.Bool.{Bool, true, false, _||_, _&&_, cond}
+use mathlib.Core.Bool.{Bool, true, false, _||_, cond, true≢false}
 use native.Mathlib.Nat.{add-zero, zero-add}
 use native.Mathlib.Omega.{arith}
 use borrow.Author.Tests.{eq-eqb, eqb-false, eqb-true, lt-leb, lt-ltb, ne-eqb}
@@ -18,6 +18,26 @@ pub named-append : (m : NameProgress) (s t : List ℕ) → named m (s ++ t) ≡ 
 unfolding named
 named-append m [] t = refl
 named-append m (b ∷ s) t = named-append _ s t
+
+-- two bytes are a unit
+pub named-unit : (m : NameProgress) (a b : ℕ) (s : List ℕ) → m .odd ≡ false → named m (a ∷ b ∷ s) ≡ named (withUnit m (a + 256 * b)) s
+unfolding named withByte withUnit
+named-unit m a b s even = ap (λ (x : NameProgress). named (withByte x b) s) (low-half (m .odd) even)
+  where
+    low-half : (odd : Bool) → odd ≡ false
+        → cond odd (withUnit m (m .low + 256 * a)) (record { units = m .units; ended = m .ended; odd = true; low = a })
+        ≡ record { units = m .units; ended = m .ended; odd = true; low = a }
+    low-half true e = absurd (true≢false e)
+    low-half false e = refl
+
+pub unit-even : (m : NameProgress) (u : ℕ) → withUnit m u .odd ≡ false
+unfolding withUnit
+unit-even m u = refl
+
+-- the high half of a unit that was split
+pub half-even : (m : NameProgress) (b : ℕ) → m .odd ≡ true → withByte m b .odd ≡ false
+unfolding withByte withUnit
+half-even m b odd = rw odd
 
 -- the name between two units
 abbrev between : ℕ → Bool → NameProgress

@@ -11,6 +11,9 @@ ghost use Rattle.portion_reader.specs.Counters.{countersOf, flag, progre
 // security_first, finished, received, name_at, name_size, properties_at, and of the name units, ended, odd and low.
 pub const COUNTERS: usize = 10;
 
+// The one that changes where a portion is only counted.
+pub(crate) const RECEIVED: usize = 2;
+
 // A yes or no: any number but 0 is a yes.
 fn flag(b: bool) -> usize
     ensures { λ r. ⌜ r ≡ flag b ⌝ }
@@ -24,7 +27,7 @@ pub(crate) fn progress_of(counters: &[usize; COUNTERS]) -> Progress
     Progress {
         security_first: counters[0] != 0,
         finished: counters[1] != 0,
-        received: Bytes(counters[2]),
+        received: Bytes(counters[RECEIVED]),
         places: Places {
             name_at: Bytes(counters[3]),
             name_size: Bytes(counters[4]),

@@ -3,10 +3,14 @@
 mod counters;
 
 use crate::counters::COUNTERS;
+use crate::counters::RECEIVED;
 use crate::counters::counters_of;
 use crate::counters::progress_of;
+use octets::count::Bytes;
 use portions::finish::finish;
 use portions::portion::PortionAnswer;
+use portions::portion::counted;
+use portions::portion::only_counted;
 use portions::portion::portion;
 use portions::state::start;
 use rules::refusal::Refusal;
@@ -62,8 +66,8 @@ pub extern "C" fn ugb_portion_positional(
 ) -> Refusal
     ensures { λ r. ⌜ r ≡ portionRefusal (portionAnswer (stateWith (progressOf (now (counters .entry))) (now (head .entry))
         (now («provider_type» .entry)) (now (properties .entry))) (now (bytes .entry))) ⌝ }
-    ensures { λ _. ⌜ now (counters .exit) ≡ portionCounters (now (counters .entry)) (portionAnswer (stateWith (progressOf (now (counters .entry)))
-        (now (head .entry)) (now («provider_type» .entry)) (now (properties .entry))) (now (bytes .entry))) ⌝ }
+    ensures { λ _. ⌜ now (counters .exit) ≡ portionCounters (now (counters .entry)) (stateWith (progressOf (now (counters .entry)))
+        (now (head .entry)) (now («provider_type» .entry)) (now (properties .entry))) (now (bytes .entry)) ⌝ }
     ensures { λ _. ⌜ now (head .exit) ≡ portionState (stateWith (progressOf (now (counters .entry))) (now (head .entry))
         (now («provider_type» .entry)) (now (properties .entry))) (now (bytes .entry)) .head ⌝ }
     ensures { λ _. ⌜ now («provider_type» .exit) ≡ portionState (stateWith (progressOf (now (counters .entry))) (now (head .entry))
@@ -72,6 +76,11 @@ pub extern "C" fn ugb_portion_positional(
         (now («provider_type» .entry)) (now (properties .entry))) (now (bytes .entry)) .properties ⌝ }
 {
     let progress = progress_of(counters);
+    let n = Bytes(bytes.len());
+    if only_counted(progress, head, provider_type, properties, n) {
+        counters[RECEIVED] = counted(progress.received, n).0;
+        return no_refusal();
+    }
     match portion(progress, head, provider_type, properties, bytes) {
         PortionAnswer::Taken(after) => {
             *counters = counters_of(after);

@@ -1,5 +1,6 @@
 pub mod Answer
 pub mod Call
+pub mod Counted
 pub mod Header
 pub mod Judge
 pub mod Late

@@ -14,7 +14,7 @@ ghost use mathlib.Core.Path.{_≡_};
 ghost use Prim.Native.Nat.{_+_, min};
 ghost use lib.ListN.{length};
 ghost use Rattle.portions.specs.State.{nameThen, placesAfter, reach, stateWith};
-ghost use Rattle.portions.specs.Portion.{portionAnswer, portionState};
+ghost use Rattle.portions.specs.Portion.{apart, onlyCounted, portionAnswer, portionState};
 
 pub enum PortionAnswer {
     Taken(Progress),
@@ -24,7 +24,7 @@ pub enum PortionAnswer {
 // No answer depends on more bytes: the count stops here, so that it never wraps.
 const REACH: usize = 16777216;
 
-fn counted(received: Bytes, n: Bytes) -> Bytes
+pub fn counted(received: Bytes, n: Bytes) -> Bytes
     ensures { λ r. ⌜ r .0 ≡ min reach (received .0 + n .0) ⌝ }
 {
     if REACH <= received.0 {
@@ -91,4 +91,38 @@ pub fn portion(
         places,
         name,
     })
+}
+
+// Whether so many bytes bring nothing of a window, or of the name.
+fn apart(size: Bytes, at: Bytes, received: Bytes, n: Bytes) -> bool
+    ensures { λ r. ⌜ r ≡ apart (size .0) (at .0) (received .0) (n .0) ⌝ }
+{
+    (n.0 <= less(at, received).0) | (size.0 <= less(received, at).0)
+}
+
+fn apart_from(window: &[u8], at: Bytes, received: Bytes, n: Bytes) -> bool
+    ensures { λ r. ⌜ r ≡ apart (length (now (window .entry))) (at .0) (received .0) (n .0) ⌝ }
+{
+    apart(Bytes(window.len()), at, received, n)
+}
+
+// Whether a portion of n bytes is only counted. (A caller who keeps the counters elsewhere then has one to change.)
+pub fn only_counted(
+    progress: Progress,
+    head: &[u8; 18],
+    provider_type: &[u8; 4],
+    properties: &[u8; 556],
+    n: Bytes,
+) -> bool
+    ensures { λ r. ⌜ r ≡ onlyCounted (stateWith progress (now (head .entry)) (now («provider_type» .entry)) (now (properties .entry))) (n .0) ⌝ }
+{
+    let k = progress.received;
+    let places = progress.places;
+    let name_at = places.name_at;
+    !progress.finished
+        & (16 <= k.0)
+        & apart_from(head, Bytes(0), k, n)
+        & apart_from(provider_type, less(name_at, Bytes(4)), k, n)
+        & apart(places.name_size, name_at, k, n)
+        & apart_from(properties, places.properties_at, k, n)
 }

@@ -1,55 +1,106 @@
--- The answer picks the case; the state's bytes are as the portion left them.
+-- Only counted, or the answer picks the case; the state's bytes are as the portion left them.
+use Prim.Native.Nat.{ℕ, _+_, min}
 use denote.Ref.{now}
-use mathlib.Core.Path.{sym, ap, _∙_}
+use mathlib.Core.Path.{_≡_, sym, ap, _∙_}
+use lib.ListN.{length, set}
 use borrow.Author.Needs.{needs}
-use Rattle.octets.proofs.Laws.Steps.{the}
-use Rattle.portions.specs.Portion.{portionAnswer, portionState}
-use Rattle.portions.specs.State.{stateWith}
+use Rattle.octets.proofs.Laws.Steps.{answers, passed, the}
+use Rattle.portions.specs.Portion.{onlyCounted, portionAnswer, portionState}
+use Rattle.portions.specs.State.{reach, stateWith}
 use Rattle.portions.specs.declared.state.Progress.{Progress}
 use Rattle.portions.specs.declared.state.State.{State}
-use Rattle.portion_reader.specs.Answer.{portionCounters, portionRefusal}
+use Rattle.portions.proofs.Laws.Call.{taken-answer, taken-state}
+use Rattle.portions.proofs.Laws.Counted.{counted-fed, only-counted}
+use Rattle.portion_reader.specs.Answer.{answerCounters, portionCounters, portionRefusal}
+use Rattle.portion_reader.specs.Counters.{progressOf}
 use Rattle.portion_reader.proofs.ugb_portion_positional.Statement.{statement}
 use Rattle.portion_reader.proofs.ugb_portion_positional.Tie as tie
 
+-- the state at the entry
+entry : tie.After-only-counted → tie.Start
+entry c = search
+
+state : tie.After-only-counted → Progress → State
+state c p = let a = entry (search) .args in stateWith p (now (a .head)) (now (a .provider-type)) (now (a .properties))
+
+told : (c : tie.After-only-counted) → the tie.After-progress-of (search) .progress-of .result ≡ progressOf (now (entry c .args .counters))
+unfolding entry
+told c = the tie.After-progress-of (search) .progress-of .ensures
+
+-- the test, of the state that the counters are
+tested : (c : tie.After-only-counted)
+    → c .only-counted .result ≡ onlyCounted (state c (progressOf (now (entry c .args .counters)))) (length (now (entry c .args .bytes)))
+unfolding entry state
+tested c = c .only-counted .ensures ∙ ap (λ (p : Progress). onlyCounted (state c p) (length (now (entry c .args .bytes)))) (told c)
+
 returns : tie.Need-returns
-unfolding portionRefusal portionCounters
+unfolding entry state portionRefusal portionCounters
 returns c =
-    let a = the tie.Start (search) .args in
-    let told = the tie.After-progress-of (search) .progress-of .ensures in
-    let fed = the tie.After-portion (search) .portion .ensures in
-    let state : Progress → State = λ p. stateWith p (now (a .head)) (now (a .provider-type)) (now (a .properties)) in
+    let a = entry (search) .args in
+    let counters = now (a .counters) in
     let t = now (a .bytes) in
-    let answer = sym (the tie.After-after (search) .after .given .1) ∙ fed .0 ∙ ap (λ (p : Progress). portionAnswer (state p) t) told in (
-      c .no-refusal .ensures ∙ ap portionRefusal answer,
+    let x = state (search) (progressOf counters) in
+    let e = sym (tested (search)) ∙ the tie.Then1 (search) .if1 .taken in
+    let going = only-counted x (length t) e .going in
+    let stays = sym (taken-state x t going ∙ counted-fed x t e) in
+    let received = the tie.After-counted (search) .counted .ensures ∙ ap (λ (p : Progress). min reach (p .received .0 + length t)) (told (search)) in (
+      c .no-refusal .ensures ∙ ap portionRefusal (sym (taken-answer x t going)),
       (
-        the tie.After-counters-of (search) .counters-of .ensures ∙ ap (portionCounters (now (a .counters))) answer,
+        answers _ _ _ _ (sym e) (ap (set counters 2) received),
+        (ap (λ (y : State). y .head) stays, (ap (λ (y : State). y .«provider_type») stays, ap (λ (y : State). y .properties) stays)),
+      ),
+    )
+
+-- not only counted: what the library's portion promises, of the state that the counters are
+looked : (c : tie.After-portion) → tie.After-only-counted
+looked c = search
+
+answer : (c : tie.After-portion)
+    → c .portion .result ≡ portionAnswer (state (looked c) (progressOf (now (entry (looked c) .args .counters)))) (now (entry (looked c) .args .bytes))
+unfolding entry state looked
+answer c =
+    c .portion .ensures .0
+    ∙ ap (λ (p : Progress). portionAnswer (state (looked c) p) (now (entry (looked c) .args .bytes))) (told (looked c))
+
+returns-2 : tie.Need-returns-2
+unfolding entry state looked portionRefusal portionCounters answerCounters
+returns-2 c =
+    let l = looked (search) in
+    let a = entry l .args in
+    let t = now (a .bytes) in
+    let e = sym (tested l) ∙ the tie.Else1 (search) .if1 .left in
+    let after = sym (the tie.After-after (search) .after .given .1) ∙ answer (search) in
+    let fed = the tie.After-portion (search) .portion .ensures .1 in (
+      c .no-refusal2 .ensures ∙ ap portionRefusal after,
+      (
+        passed _ _ _ _ (sym e) (the tie.After-counters-of (search) .counters-of .ensures ∙ ap (answerCounters (now (a .counters))) after),
         (
-          fed .1 .0 ∙ ap (λ (p : Progress). portionState (state p) t .head) told,
+          fed .0 ∙ ap (λ (p : Progress). portionState (state l p) t .head) (told l),
           (
-            fed .1 .1 .0 ∙ ap (λ (p : Progress). portionState (state p) t .«provider_type») told,
-            fed .1 .1 .1 ∙ ap (λ (p : Progress). portionState (state p) t .properties) told,
+            fed .1 .0 ∙ ap (λ (p : Progress). portionState (state l p) t .«provider_type») (told l),
+            fed .1 .1 ∙ ap (λ (p : Progress). portionState (state l p) t .properties) (told l),
           ),
         ),
       ),
     )
 
-returns-2 : tie.Need-returns-2
-unfolding portionRefusal portionCounters
-returns-2 c =
-    let a = the tie.Start (search) .args in
-    let told = the tie.After-progress-of (search) .progress-of .ensures in
-    let fed = the tie.After-portion (search) .portion .ensures in
-    let state : Progress → State = λ p. stateWith p (now (a .head)) (now (a .provider-type)) (now (a .properties)) in
+returns-3 : tie.Need-returns-3
+unfolding entry state looked portionRefusal portionCounters answerCounters
+returns-3 c =
+    let l = looked (search) in
+    let a = entry l .args in
     let t = now (a .bytes) in
-    let answer = sym (the tie.After-refusal (search) .refusal .given .1) ∙ fed .0 ∙ ap (λ (p : Progress). portionAnswer (state p) t) told in (
-      ap portionRefusal answer,
+    let e = sym (tested l) ∙ the tie.Else1 (search) .if1 .left in
+    let refused = sym (the tie.After-refusal (search) .refusal .given .1) ∙ answer (search) in
+    let fed = the tie.After-portion (search) .portion .ensures .1 in (
+      ap portionRefusal refused,
       (
-        ap (portionCounters (now (a .counters))) answer,
+        passed _ _ _ _ (sym e) (ap (answerCounters (now (a .counters))) refused),
         (
-          fed .1 .0 ∙ ap (λ (p : Progress). portionState (state p) t .head) told,
+          fed .0 ∙ ap (λ (p : Progress). portionState (state l p) t .head) (told l),
           (
-            fed .1 .1 .0 ∙ ap (λ (p : Progress). portionState (state p) t .«provider_type») told,
-            fed .1 .1 .1 ∙ ap (λ (p : Progress). portionState (state p) t .properties) told,
+            fed .1 .0 ∙ ap (λ (p : Progress). portionState (state l p) t .«provider_type») (told l),
+            fed .1 .1 ∙ ap (λ (p : Progress). portionState (state l p) t .properties) (told l),
           ),
         ),
       ),
@@ -61,9 +112,14 @@ ugb-portion-positional-spec =
     (tie.spec
     (λ c κs. search needs)
     (λ c κs. search needs)
-    (λ c. search needs)
     (λ c κs. search needs)
+    (λ c. search needs)
     (λ c κs. search needs)
     returns
+    (λ c κs. search needs)
     (λ c. search needs)
-    returns-2)
+    (λ c κs. search needs)
+    (λ c κs. search needs)
+    returns-2
+    (λ c. search needs)
+    returns-3)

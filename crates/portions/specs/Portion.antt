@@ -17,9 +17,9 @@ portionState x t = cond (x .progress .finished) x (fed x t)
 unfoldable pub portionAnswer : State → List ℕ → PortionAnswer
 portionAnswer x t = cond (x .progress .finished) (Refused (refusal 14 0)) (Taken (fed x t .progress))
 
--- n bytes that come behind k bring nothing of l bytes at an offset
+-- n bytes that come behind k bring nothing of l bytes at an offset: those came before, or come later
 unfoldable pub apart : ℕ → ℕ → ℕ → ℕ → Bool
-apart l at k n = leb n (at - k) || leb l (k - at)
+apart l at k n = leb l (k - at) || leb n (at - k)
 
 -- nothing of n bytes more is held or judged: they are only counted
 unfoldable pub onlyCounted : State → ℕ → Bool

@@ -97,7 +97,10 @@ pub fn portion(
 fn apart(size: Bytes, at: Bytes, received: Bytes, n: Bytes) -> bool
     ensures { λ r. ⌜ r ≡ apart (size .0) (at .0) (received .0) (n .0) ⌝ }
 {
-    (n.0 <= less(at, received).0) | (size.0 <= less(received, at).0)
+    if size.0 <= less(received, at).0 {
+        return true;
+    }
+    n.0 <= less(at, received).0
 }
 
 fn apart_from(window: &[u8], at: Bytes, received: Bytes, n: Bytes) -> bool

@@ -23,11 +23,11 @@ use Rattle.portions.proofs.Laws.Window.{copied-none, shown-whole}
 module _ (l at k n : ℕ) (e : apart l at k n ≡ true) where
   apart-by : (n ≤ at - k → ⊥) → l ≤ k - at
   unfolding apart
-  apart-by some = go (leb n (at - k)) refl e
+  apart-by some = go (leb l (k - at)) refl e
     where
-      go : (b : Bool) → leb n (at - k) ≡ b → (b || leb l (k - at)) ≡ true → l ≤ k - at
-      go true f e = absurd (some (leb-true n (at - k) f))
-      go false f e = leb-true l (k - at) e
+      go : (b : Bool) → leb l (k - at) ≡ b → (b || leb n (at - k)) ≡ true → l ≤ k - at
+      go true f e = leb-true l (k - at) f
+      go false f e = absurd (some (leb-true n (at - k) e))
 
 copied-empty : (x : List ℕ) → copied x [] ≡ []
 unfolding copied over

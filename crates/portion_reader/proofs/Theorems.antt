@@ -1,21 +1,21 @@
 -- Each call by whether the state is finished.
 use Prim.Native.Nat.{ℕ, _+_, _-_, min}
 use mathlib.Core.Path.{_≡_, refl, sym, ap, subst, _∙_}
-use mathlib.Core.Bool.{Bool, true, false, cond}
+use mathlib.Core.Bool.{Bool, true, false, not, _&&_, cond, and-eq-true-iff}
 use mathlib.Core.List.{List, [], _∷_}
 use native.Mathlib.Omega.{arith}
-use lib.ListN.{length, getD, set}
+use borrow.Author.Tests.{not-true}
+use lib.ListN.{length, set}
 use Rattle.octets.specs.Octets.{Octets}
 use Rattle.rules.specs.Refusal.{bytes}
 use Rattle.portions.specs.Finish.{finishState, finishedProgress}
 use Rattle.portions.specs.Name.{noName, named}
-use Rattle.portions.specs.Portion.{counted, onlyCounted, portionAnswer, portionState}
-use Rattle.portions.specs.State.{fed, nameIn, nameThen, placesAfter, placesOf, reach, stateOf, stateWith}
+use Rattle.portions.specs.Portion.{portionAnswer, portionState}
+use Rattle.portions.specs.State.{counted, fed, gathered, nameIn, nameThen, onlyCounted, placesAfter, placesOf, reach, stateOf, stateWith}
 use Rattle.portions.specs.Window.{shown, window}
 use Rattle.portions.specs.declared.state.Progress.{Progress}
 use Rattle.portions.specs.declared.state.State.{State}
-use Rattle.portions.proofs.Laws.Call.{refused-answer, refused-state, taken-answer, taken-state}
-use Rattle.portions.proofs.Laws.Counted.{counted-fed, only-counted}
+use Rattle.portions.proofs.Laws.Call.{counted-fed, refused-answer, refused-state, taken-answer, taken-state}
 use Rattle.portion_reader.proofs.Row.{Fits, named-fits, part-octets, progress-fits, progress-kept}
 use Rattle.portion_reader.specs.Answer.{answerCounters, finishCounters, portionCounters, stateAnswer}
 use Rattle.portion_reader.specs.Counters.{countersOf, progressOf}
@@ -44,24 +44,33 @@ module _ (c head type properties t : List ℕ) (ten : length c ≡ 10) (o : Octe
   abbrev x : State
   x = stateWith (progressOf c) head type properties
 
-  fed-fits : Fits (fed x t .progress .name)
-  unfolding fed
-  fed-fits =
+  gathered-fits : Fits (gathered x t .progress .name)
+  unfolding gathered
+  gathered-fits =
       let k = progressOf c .received .0 in
       let q = placesAfter (progressOf c) (shown head 0 k t) in
       named-fits (progressOf c .name) (nameThen q k t) (part-octets (q .«name_size» .0 - (k - q .«name_at» .0)) (q .«name_at» .0 - k) t o) (progress-fits c)
 
+  fed-fits : Fits (fed x t .progress .name)
+  unfolding fed counted
+  fed-fits = go (onlyCounted (x .progress) (length t))
+    where
+      go : (b : Bool) → Fits (cond b (stateWith (counted (x .progress) (length t)) head type properties) (gathered x t) .progress .name)
+      go true = progress-fits c
+      go false = gathered-fits
+
   portion-kept : (progressOf (portionCounters c x t) ≡ portionState x t .progress) × (length (portionCounters c x t) ≡ 10)
   unfolding portionCounters answerCounters counted
-  portion-kept = go (onlyCounted x (length t)) refl (x .progress .finished) refl
+  portion-kept = go (not (x .progress .finished) && onlyCounted (x .progress) (length t)) refl (x .progress .finished) refl
     where
-      go : (b : Bool) → onlyCounted x (length t) ≡ b → (f : Bool) → x .progress .finished ≡ f
+      go : (b : Bool) → (not (x .progress .finished) && onlyCounted (x .progress) (length t)) ≡ b → (f : Bool) → x .progress .finished ≡ f
           → let d = cond b (set c 2 (min reach (progressOf c .received .0 + length t))) (answerCounters c (portionAnswer x t)) in
           (progressOf d ≡ portionState x t .progress) × (length d ≡ 10)
       go true e f g =
           let one = set-received c (min reach (progressOf c .received .0 + length t)) ten in
-          let going = only-counted x (length t) e .going in
-          (one .0 ∙ ap (λ (y : State). y .progress) (sym (taken-state x t going ∙ counted-fed x t e)), one .1)
+          let both = and-eq-true-iff (not (x .progress .finished)) (onlyCounted (x .progress) (length t)) .0 e in
+          let going = not-true (x .progress .finished) (both .0) in
+          (one .0 ∙ ap (λ (y : State). y .progress) (sym (taken-state x t going ∙ counted-fed x t (both .1))), one .1)
       go false e true g =
           let same = ap (answerCounters c) (refused-answer x t g) in
           (ap progressOf same ∙ ap (λ (y : State). y .progress) (sym (refused-state x t g)), ap length same ∙ ten)

@@ -1,14 +1,14 @@
 -- The state and the answers as C has them: the state one struct, an answer the refusal and the summary beside it.
 use Prim.Native.Nat.{ℕ, _+_, min}
-use mathlib.Core.Bool.{cond}
+use mathlib.Core.Bool.{not, _&&_, cond}
 use mathlib.Core.List.{List}
 use lib.ListN.{length, set}
 use Rattle.rules.specs.declared.refusal.Refusal.{Refusal}
 use Rattle.rules.specs.declared.section.Summarized.{Summarized}
 use Rattle.rules.specs.declared.section.Summarized.the-variants.{Accepted, Refused}
 use Rattle.portions.specs.Finish.{finishedProgress}
-use Rattle.portions.specs.Portion.{onlyCounted, portionAnswer}
-use Rattle.portions.specs.State.{reach}
+use Rattle.portions.specs.Portion.{portionAnswer}
+use Rattle.portions.specs.State.{onlyCounted, reach}
 use Rattle.portions.specs.declared.portion.PortionAnswer.{PortionAnswer}
 use Rattle.portions.specs.declared.portion.PortionAnswer.the-variants.{Taken, Refused as Portion·Refused}
 use Rattle.portions.specs.declared.state.State.{State}
@@ -33,7 +33,7 @@ answerCounters c (Portion·Refused r) = c
 -- the counters c of the state x after a portion t; where it is only counted, no other number is touched
 unfoldable pub portionCounters : List ℕ → State → List ℕ → List ℕ
 portionCounters c x t =
-    cond (onlyCounted x (length t)) (set c 2 (min reach (x .progress .received .0 + length t))) (answerCounters c (portionAnswer x t))
+    cond (not (x .progress .finished) && onlyCounted (x .progress) (length t)) (set c 2 (min reach (x .progress .received .0 + length t))) (answerCounters c (portionAnswer x t))
 
 unfoldable pub summarizedAnswer : Summarized → UgbSummarized
 summarizedAnswer (Accepted m) = record { refusal = noRefusal; summary = m }

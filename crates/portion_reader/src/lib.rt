@@ -77,7 +77,7 @@ pub extern "C" fn ugb_portion_positional(
 {
     let progress = progress_of(counters);
     let n = Bytes(bytes.len());
-    if only_counted(progress, head, provider_type, properties, n) {
+    if !progress.finished & only_counted(progress, n) {
         counters[RECEIVED] = counted(progress.received, n).0;
         return no_refusal();
     }

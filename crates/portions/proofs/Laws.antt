@@ -1,6 +1,5 @@
 pub mod Answer
 pub mod Call
-pub mod Counted
 pub mod Header
 pub mod Judge
 pub mod Late

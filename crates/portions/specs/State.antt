@@ -1,9 +1,9 @@
 -- C-12: what is kept of the bytes so far, as a function of them; and a portion.
 use Prim.Native.Nat.{ℕ, _+_, _-_, min}
 use mathlib.Core.List.{List}
-use mathlib.Core.Bool.{Bool, true, false, cond}
+use mathlib.Core.Bool.{Bool, true, false, _&&_, _||_, cond}
 use lib.ListN.{length, take, drop}
-use lib.Dec.{ltb}
+use lib.Dec.{leb, ltb}
 use Rattle.rules.specs.Refusal.{bytes, limit}
 use Rattle.rules.specs.Security.{providerAt, securityLength}
 use Rattle.rules.specs.declared.security.SecurityFields.{SecurityFields}
@@ -27,10 +27,12 @@ reach = 16777216
 -- lie there
 unfoldable pub placesIn : SecurityFields → Places
 placesIn f =
+    let name = min (limit + 1) (providerAt f) + 4 in
+    let end = min (limit + 1) (securityLength f) in
     record {
-      «name_at» = bytes (min (limit + 1) (providerAt f) + 4);
-      «name_size» = bytes (min limit (f .«provider_info_size» .0 - 4));
-      «properties_at» = bytes (min (limit + 1) (securityLength f));
+      «name_at» = bytes name;
+      «name_size» = bytes (min (f .«provider_info_size» .0 - 4) (end - name));
+      «properties_at» = bytes end;
     }
 
 unfoldable pub placesOf : Bool → List ℕ → Places
@@ -65,9 +67,25 @@ stateOf first s =
 unfoldable pub placesAfter : Progress → List ℕ → Places
 placesAfter p head = cond (ltb (p .received .0) 16) (placesOf (p .«security_first») head) (p .places)
 
--- any state after a portion t
-unfoldable pub fed : State → List ℕ → State
-fed x t =
+-- of n bytes more nothing is held or judged, they are only counted: all that is came before, or comes later and the head is there
+unfoldable pub onlyCounted : Progress → ℕ → Bool
+onlyCounted p n =
+    let k = p .received .0 in
+    leb 556 (k - p .places .«properties_at» .0) || (leb 18 k && leb n (p .places .«name_at» .0 - 4 - k))
+
+unfoldable pub counted : Progress → ℕ → Progress
+counted p n =
+    record {
+      «security_first» = p .«security_first»;
+      finished = p .finished;
+      received = bytes (min reach (p .received .0 + n));
+      places = p .places;
+      name = p .name;
+    }
+
+-- what is held and judged after a portion t
+unfoldable pub gathered : State → List ℕ → State
+gathered x t =
     let p = x .progress in
     let k = p .received .0 in
     let head = shown (x .head) 0 k t in
@@ -83,3 +101,9 @@ fed x t =
     head
     (shown (x .«provider_type») (q .«name_at» .0 - 4) k t)
     (shown (x .properties) (q .«properties_at» .0) k t)
+
+-- any state after a portion t
+unfoldable pub fed : State → List ℕ → State
+fed x t =
+    cond (onlyCounted (x .progress) (length t))
+    (stateWith (counted (x .progress) (length t)) (x .head) (x .«provider_type») (x .properties)) (gathered x t)

@@ -13,8 +13,8 @@ use rules::refusal::Refusal;
 ghost use mathlib.Core.Path.{_≡_};
 ghost use Prim.Native.Nat.{_+_, min};
 ghost use lib.ListN.{length};
-ghost use Rattle.portions.specs.State.{nameThen, placesAfter, reach, stateWith};
-ghost use Rattle.portions.specs.Portion.{apart, onlyCounted, portionAnswer, portionState};
+ghost use Rattle.portions.specs.State.{nameThen, onlyCounted, placesAfter, reach, stateWith};
+ghost use Rattle.portions.specs.Portion.{portionAnswer, portionState};
 
 pub enum PortionAnswer {
     Taken(Progress),
@@ -52,6 +52,22 @@ fn name_then(places: Places, received: Bytes, bytes: &[u8]) -> &[u8]
     passed(bytes, from, less(places.name_size, came))
 }
 
+// Whether of n bytes nothing is held or judged: all that is came before, or comes later and the head is there. (Most of
+// a section is key, signature, certificate, extension and body.)
+pub fn only_counted(progress: Progress, n: Bytes) -> bool
+    ensures { λ r. ⌜ r ≡ onlyCounted progress (n .0) ⌝ }
+{
+    let k = progress.received;
+    let places = progress.places;
+    if 556 <= less(k, places.properties_at).0 {
+        return true;
+    }
+    if k.0 < 18 {
+        return false;
+    }
+    n.0 <= less(less(places.name_at, Bytes(4)), k).0
+}
+
 // Feeds a portion to the state that these lent bytes and `progress` are. Refused with 14 after the finish, and then the
 // state stays as it is.
 pub fn portion(
@@ -74,6 +90,18 @@ pub fn portion(
         return PortionAnswer::Refused(after_the_finish());
     }
     let received = progress.received;
+    let n = Bytes(bytes.len());
+    if only_counted(progress, n) {
+        let places = progress.places;
+        let name = progress.name;
+        return PortionAnswer::Taken(Progress {
+            security_first: progress.security_first,
+            finished: false,
+            received: counted(received, n),
+            places,
+            name,
+        });
+    }
     show(head, Bytes(0), received, bytes);
     let places = places_after(progress, head);
     show(
@@ -87,45 +115,8 @@ pub fn portion(
     PortionAnswer::Taken(Progress {
         security_first: progress.security_first,
         finished: false,
-        received: counted(received, Bytes(bytes.len())),
+        received: counted(received, n),
         places,
         name,
     })
-}
-
-// Whether so many bytes bring nothing of a window, or of the name.
-fn apart(size: Bytes, at: Bytes, received: Bytes, n: Bytes) -> bool
-    ensures { λ r. ⌜ r ≡ apart (size .0) (at .0) (received .0) (n .0) ⌝ }
-{
-    if size.0 <= less(received, at).0 {
-        return true;
-    }
-    n.0 <= less(at, received).0
-}
-
-fn apart_from(window: &[u8], at: Bytes, received: Bytes, n: Bytes) -> bool
-    ensures { λ r. ⌜ r ≡ apart (length (now (window .entry))) (at .0) (received .0) (n .0) ⌝ }
-{
-    apart(Bytes(window.len()), at, received, n)
-}
-
-// Whether a portion of n bytes is only counted. (A caller who keeps the counters elsewhere then has one to change.)
-pub fn only_counted(
-    progress: Progress,
-    head: &[u8; 18],
-    provider_type: &[u8; 4],
-    properties: &[u8; 556],
-    n: Bytes,
-) -> bool
-    ensures { λ r. ⌜ r ≡ onlyCounted (stateWith progress (now (head .entry)) (now («provider_type» .entry)) (now (properties .entry))) (n .0) ⌝ }
-{
-    let k = progress.received;
-    let places = progress.places;
-    let name_at = places.name_at;
-    !progress.finished
-        & (16 <= k.0)
-        & apart_from(head, Bytes(0), k, n)
-        & apart_from(provider_type, less(name_at, Bytes(4)), k, n)
-        & apart(places.name_size, name_at, k, n)
-        & apart_from(properties, places.properties_at, k, n)
 }

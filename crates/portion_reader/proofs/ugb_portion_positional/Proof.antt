@@ -1,16 +1,17 @@
 -- Only counted, or the answer picks the case; the state's bytes are as the portion left them.
 use Prim.Native.Nat.{ℕ, _+_, min}
 use denote.Ref.{now}
+use mathlib.Core.Bool.{Bool, not, _&&_, and-eq-true-iff}
 use mathlib.Core.Path.{_≡_, sym, ap, _∙_}
 use lib.ListN.{length, set}
 use borrow.Author.Needs.{needs}
+use borrow.Author.Tests.{not-true}
 use Rattle.octets.proofs.Laws.Steps.{answers, passed, the}
-use Rattle.portions.specs.Portion.{onlyCounted, portionAnswer, portionState}
-use Rattle.portions.specs.State.{reach, stateWith}
+use Rattle.portions.specs.Portion.{portionAnswer, portionState}
+use Rattle.portions.specs.State.{onlyCounted, reach, stateWith}
 use Rattle.portions.specs.declared.state.Progress.{Progress}
 use Rattle.portions.specs.declared.state.State.{State}
-use Rattle.portions.proofs.Laws.Call.{taken-answer, taken-state}
-use Rattle.portions.proofs.Laws.Counted.{counted-fed, only-counted}
+use Rattle.portions.proofs.Laws.Call.{counted-fed, taken-answer, taken-state}
 use Rattle.portion_reader.specs.Answer.{answerCounters, portionCounters, portionRefusal}
 use Rattle.portion_reader.specs.Counters.{progressOf}
 use Rattle.portion_reader.proofs.ugb_portion_positional.Statement.{statement}
@@ -29,9 +30,14 @@ told c = the tie.After-progress-of (search) .progress-of .ensures
 
 -- the test, of the state that the counters are
 tested : (c : tie.After-only-counted)
-    → c .only-counted .result ≡ onlyCounted (state c (progressOf (now (entry c .args .counters)))) (length (now (entry c .args .bytes)))
-unfolding entry state
-tested c = c .only-counted .ensures ∙ ap (λ (p : Progress). onlyCounted (state c p) (length (now (entry c .args .bytes)))) (told c)
+    → let p = progressOf (now (entry c .args .counters)) in
+    (not (the tie.After-progress-of (search) .progress-of .result .finished) && c .only-counted .result)
+    ≡ (not (p .finished) && onlyCounted p (length (now (entry c .args .bytes))))
+unfolding entry
+tested c =
+    let n = length (now (entry c .args .bytes)) in
+    ap (λ (b : Bool). not (the tie.After-progress-of (search) .progress-of .result .finished) && b) (c .only-counted .ensures)
+    ∙ ap (λ (p : Progress). not (p .finished) && onlyCounted p n) (told c)
 
 returns : tie.Need-returns
 unfolding entry state portionRefusal portionCounters
@@ -41,8 +47,9 @@ returns c =
     let t = now (a .bytes) in
     let x = state (search) (progressOf counters) in
     let e = sym (tested (search)) ∙ the tie.Then1 (search) .if1 .taken in
-    let going = only-counted x (length t) e .going in
-    let stays = sym (taken-state x t going ∙ counted-fed x t e) in
+    let both = and-eq-true-iff (not (x .progress .finished)) (onlyCounted (x .progress) (length t)) .0 e in
+    let going = not-true (x .progress .finished) (both .0) in
+    let stays = sym (taken-state x t going ∙ counted-fed x t (both .1)) in
     let received = the tie.After-counted (search) .counted .ensures ∙ ap (λ (p : Progress). min reach (p .received .0 + length t)) (told (search)) in (
       c .no-refusal .ensures ∙ ap portionRefusal (sym (taken-answer x t going)),
       (

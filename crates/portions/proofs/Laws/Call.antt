@@ -1,13 +1,15 @@
 -- What a call does by whether the state is finished.
 use Prim.Native.Nat.{ℕ}
-use mathlib.Core.Path.{_≡_}
+use mathlib.Core.Path.{_≡_, refl, sym}
 use mathlib.Core.Bool.{true, false}
 use mathlib.Core.List.{List}
+use lib.ListN.{length}
+use Rattle.octets.proofs.Laws.Steps.{answers, passed}
 use Rattle.rules.specs.Refusal.{refusal}
 use Rattle.rules.specs.declared.section.Summarized.the-variants.{Refused}
 use Rattle.portions.specs.Finish.{finishAnswer, heldAnswer}
 use Rattle.portions.specs.Portion.{portionAnswer, portionState}
-use Rattle.portions.specs.State.{fed}
+use Rattle.portions.specs.State.{counted, fed, gathered, onlyCounted, stateWith}
 use Rattle.portions.specs.declared.portion.PortionAnswer.the-variants.{Refused as Portion·Refused, Taken}
 use Rattle.portions.specs.declared.state.State.{State}
 
@@ -38,3 +40,14 @@ module _ (x : State) (t : List ℕ) (closed : x .progress .finished ≡ true) wh
   pub refused-state : portionState x t ≡ x
   unfolding portionState
   refused-state = rw closed
+
+-- a portion by whether it is only counted
+module _ (x : State) (t : List ℕ) where
+  pub counted-fed : onlyCounted (x .progress) (length t) ≡ true
+      → fed x t ≡ stateWith (counted (x .progress) (length t)) (x .head) (x .«provider_type») (x .properties)
+  unfolding fed
+  counted-fed e = sym (answers _ _ _ _ (sym e) refl)
+
+  pub gathered-fed : onlyCounted (x .progress) (length t) ≡ false → fed x t ≡ gathered x t
+  unfolding fed
+  gathered-fed e = sym (passed _ _ _ _ (sym e) refl)

@@ -80,8 +80,8 @@ module _ (s : List ℕ) where
     name-in =
         let info = within-in s (providerAt f) size (omega (arith, inside .1)) in
         let at : min (limit + 1) (providerAt f) + 4 ≡ providerAt f + 4 = omega (arith, inside .1) in
-        let n : min limit (size - 4) ≡ size - 4 = omega (arith, inside .1) in
-        ap (λ (g : SecurityFields). take (min limit (g .«provider_info_size» .0 - 4)) (drop (min (limit + 1) (providerAt g) + 4) s)) (security-held s)
+        let n : min (size - 4) (min (limit + 1) (securityLength f) - (min (limit + 1) (providerAt f) + 4)) ≡ size - 4 = omega (arith, inside .1) in
+        ap (λ (g : SecurityFields). nameIn (placesIn g) s) (security-held s)
         ∙ ap₂ (λ (k a : ℕ). take k (drop a s)) n at
         ∙ sym (ap (drop 4) info ∙ drop-take 4 size (drop (providerAt f) s) ∙ ap (take (size - 4)) (drop-drop 4 (providerAt f) s))
 

@@ -1,5 +1,5 @@
 -- Where the bytes lie that are held or judged: behind the fixed bytes, within reach, and the same once those have come.
-use Prim.Native.Nat.{ℕ, _+_, _≤_, min}
+use Prim.Native.Nat.{ℕ, _+_, _-_, _≤_, min}
 use mathlib.Core.Path.{_≡_, refl, sym, ap, _∙_}
 use mathlib.Core.List.{List, _++_}
 use mathlib.Core.Bool.{Bool, true, false, cond}
@@ -36,10 +36,20 @@ pub record Behind (q : Places) : Type 0 where
   pub name : 20 ≤ q .«name_at» .0
   pub properties : 16 ≤ q .«properties_at» .0
 
+-- type and name before the MessagePropertiesHeader, or no further behind its start than the type is long
+pub record InOrder (q : Places) : Type 0 where
+  pub type : q .«name_at» .0 - 4 ≤ q .«properties_at» .0
+  pub name : q .«name_at» .0 + q .«name_size» .0 ≤ q .«properties_at» .0 + 4
+
 pub places-near : (first : Bool) (head : List ℕ) → Near (placesOf first head)
 unfolding placesOf placesIn
 places-near true head = omega arith
 places-near false head = omega arith
+
+pub places-order : (first : Bool) (head : List ℕ) → InOrder (placesOf first head)
+unfolding placesOf placesIn securityLength
+places-order true head = omega arith
+places-order false head = omega arith
 
 pub places-behind : (head : List ℕ) → Behind (placesOf true head)
 unfolding placesOf placesIn securityLength providerAt certAt signatureAt keyAt

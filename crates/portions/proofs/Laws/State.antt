@@ -1,23 +1,23 @@
 -- The state after some bytes and a portion is the state after both.
 use Prim.Native.Nat.{ℕ, zero, suc, _+_, _-_, _≤_, _<_, min}
 use mathlib.Core.Path.{_≡_, refl, sym, ap, ap₂, _∙_}
-use mathlib.Core.List.{List, [], _∷_, _++_}
-use mathlib.Core.Bool.{Bool, true, false, cond}
+use mathlib.Core.List.{List, [], _∷_, _++_, append-nil}
+use mathlib.Core.Bool.{Bool, true, false, _&&_, _||_, cond, and-eq-true-iff}
 use native.Mathlib.Omega.{arith}
-use borrow.Author.Tests.{lt-ltb, le-ltb, ltb-true, ltb-false}
-use lib.ListN.{length, take, drop, length-append, length-drop, replicate, drop-of-length-le}
+use borrow.Author.Tests.{eqb-false, eqb-true, leb-true, ltb-true, ltb-false}
+use lib.ListN.{length, getD, take, drop, length-append, length-drop, replicate, drop-of-length-le, List·getD-append, List·getD-eq-default}
 use lib.Seq.{take-nil}
-use lib.Dec.{ltb}
+use lib.Dec.{eqb, leb, ltb}
 use Rattle.rules.specs.Refusal.{bytes, limit}
 use Rattle.portions.specs.Name.{named, noName}
-use Rattle.portions.specs.State.{fed, nameIn, nameThen, placesAfter, placesOf, reach, stateOf, stateWith}
+use Rattle.portions.specs.State.{counted, fed, gathered, nameIn, nameThen, onlyCounted, placesAfter, placesOf, reach, stateOf, stateWith}
 use Rattle.portions.specs.Window.{window, shown}
 use Rattle.portions.specs.declared.place.Places.{Places}
 use Rattle.portions.specs.declared.state.State.{State}
 use Rattle.portions.proofs.Laws.Lists.{drop-append, take-append}
 use Rattle.portions.proofs.Laws.Name.{named-append}
-use Rattle.portions.proofs.Laws.Places.{Behind, Near, places-behind, places-near, places-stay}
-use Rattle.portions.proofs.Laws.Window.{window-none, window-shown}
+use Rattle.portions.proofs.Laws.Places.{Behind, InOrder, Near, places-behind, places-near, places-order, places-stay}
+use Rattle.portions.proofs.Laws.Window.{window-none, window-same, window-shown}
 
 -- a count that stopped tells as much as the whole
 capped : (m n a : ℕ) → a + m ≤ reach → m - (n - a) ≡ m - (min reach n - a)
@@ -110,10 +110,10 @@ module _ (first : Bool) (s t : List ℕ) where
       go true few = ap (placesOf first) e
       go false few = places-stay first s t (omega (arith, ltb-false (min reach (length s)) 16 few))
 
-  -- a portion fed to the state of some bytes gives the state of both
-  pub fed-state : fed (stateOf first s) t ≡ stateOf first (s ++ t)
-  unfolding fed stateOf
-  fed-state =
+  -- what is held and judged of some bytes and a portion is that of both
+  gathered-state : gathered (stateOf first s) t ≡ stateOf first (s ++ t)
+  unfolding gathered stateOf
+  gathered-state =
       let k = min reach (length s) in
       let head = head-fed s t in
       let near = places-near first (window 18 (s ++ t) 0) in
@@ -145,6 +145,110 @@ module _ (first : Bool) (s t : List ℕ) where
     where
       count : min reach (min reach (length s) + length t) ≡ min reach (length (s ++ t))
       count = rw length-append (omega arith)
+
+-- bytes that came before are the same with a portion behind them, and so are those that come later
+came : (s t : List ℕ) (i : ℕ) → i < length s → getD s i 0 ≡ getD (s ++ t) i 0
+came s t i l = sym (List·getD-append s t 0 i l)
+
+later : (s t : List ℕ) (i : ℕ) → length s + length t ≤ i → getD s i 0 ≡ getD (s ++ t) i 0
+later s t i l =
+    List·getD-eq-default s 0 {n = i} (omega arith) ∙ sym (List·getD-eq-default (s ++ t) 0 {n = i} (rw length-append l))
+
+-- all that is held or judged has come
+module _ (first : Bool) (s t : List ℕ) where
+  abbrev places : Places
+  places = placesOf first (window 18 s 0)
+
+  abbrev later-state : State
+  later-state = stateWith (counted (stateOf first s .progress) (length t)) (window 18 s 0) (stateOf first s .«provider_type») (stateOf first s .properties)
+
+  -- the windows and the name are as they were
+  module _ (known : 18 ≤ length s) (type : (i : ℕ) → i < 4 → getD s (places .«name_at» .0 - 4 + i) 0 ≡ getD (s ++ t) (places .«name_at» .0 - 4 + i) 0)
+      (name : nameIn places s ≡ nameIn places (s ++ t))
+      (properties : (i : ℕ) → i < 556 → getD s (places .«properties_at» .0 + i) 0 ≡ getD (s ++ t) (places .«properties_at» .0 + i) 0) where
+    kept-state : later-state ≡ stateOf first (s ++ t)
+    unfolding stateOf counted
+    kept-state =
+        let head = window-same 18 s (s ++ t) 0 (λ i l. came s t (0 + i) (omega arith)) in
+        let stay = places-stay first s t (omega arith) in
+        (λ i.
+        stateWith
+        (record { «security_first» = first; finished = false; received = bytes (count i); places = places; name = named noName (name i) })
+        (head i) (window-same 4 s (s ++ t) _ type i) (window-same 556 s (s ++ t) _ properties i))
+        ∙ ap
+        (λ (q : Places).
+        stateWith
+        (record { «security_first» = first; finished = false; received = bytes (min reach (length (s ++ t))); places = q; name = named noName (nameIn q (s ++ t)) })
+        (window 18 (s ++ t) 0) (window 4 (s ++ t) (q .«name_at» .0 - 4)) (window 556 (s ++ t) (q .«properties_at» .0)))
+        stay
+      where
+        count : min reach (min reach (length s) + length t) ≡ min reach (length (s ++ t))
+        count = rw length-append (omega arith)
+
+  abbrev had : ℕ
+  had = min reach (length s)
+
+  near : Near places
+  near = places-near first (window 18 s 0)
+
+  order : InOrder places
+  order = places-order first (window 18 s 0)
+
+  -- they came before
+  all-came : 556 ≤ had - places .«properties_at» .0 → later-state ≡ stateOf first (s ++ t)
+  all-came l =
+      let at = places .«name_at» .0 in
+      let n = places .«name_size» .0 in
+      let none : n - (had - at) ≡ 0 = omega (arith, order .name) in
+      kept-state (omega arith) (λ i h. came s t (at - 4 + i) (omega (arith, order .type)))
+      (sym (append-nil (nameIn places s))
+      ∙ ap (λ (x : ℕ). nameIn places s ++ take x (drop (at - had) t)) (sym none)
+      ∙ sym (part-fed s t n at (omega (arith, near))))
+      (λ i h. came s t (places .«properties_at» .0 + i) (omega arith))
+
+  -- they come later
+  all-later : 18 ≤ had → 0 < length t → length t ≤ places .«name_at» .0 - 4 - had → later-state ≡ stateOf first (s ++ t)
+  all-later known some l =
+      let at = places .«name_at» .0 in
+      let few : length s + length t ≤ at - 4 = omega (arith, near .name) in
+      kept-state (omega arith) (λ i h. later s t (at - 4 + i) (omega arith))
+      (name-none places s (omega arith) ∙ sym (name-none places (s ++ t) (rw length-append (omega arith))))
+      (λ i h. later s t (places .«properties_at» .0 + i) (omega (arith, order .type)))
+
+  -- nothing comes
+  none-comes : 18 ≤ had → length t ≡ 0 → later-state ≡ stateOf first (s ++ t)
+  none-comes known none =
+      let empty : t ≡ [] = drop-of-length-le t {i = 0} (omega arith) in
+      let same : s ≡ s ++ t = sym (append-nil s) ∙ ap (λ (x : List ℕ). s ++ x) (sym empty) in
+      kept-state (omega arith) (λ i h. ap (λ (x : List ℕ). getD x (places .«name_at» .0 - 4 + i) 0) same) (ap (nameIn places) same)
+      (λ i h. ap (λ (x : List ℕ). getD x (places .«properties_at» .0 + i) 0) same)
+
+  counted-state : onlyCounted (stateOf first s .progress) (length t) ≡ true → later-state ≡ stateOf first (s ++ t)
+  unfolding onlyCounted stateOf
+  counted-state e = go (leb 556 (had - places .«properties_at» .0)) refl e
+    where
+      go : (b : Bool) → leb 556 (had - places .«properties_at» .0) ≡ b
+          → (b || (leb 18 had && leb (length t) (places .«name_at» .0 - 4 - had))) ≡ true → later-state ≡ stateOf first (s ++ t)
+      go true f e = all-came (leb-true 556 (had - places .«properties_at» .0) f)
+      go false f e =
+          let both = and-eq-true-iff (leb 18 had) (leb (length t) (places .«name_at» .0 - 4 - had)) .0 e in
+          split (leb-true 18 had (both .0)) (leb-true (length t) (places .«name_at» .0 - 4 - had) (both .1)) (eqb (length t) 0) refl
+        where
+          split : 18 ≤ had → length t ≤ places .«name_at» .0 - 4 - had → (z : Bool) → eqb (length t) 0 ≡ z → later-state ≡ stateOf first (s ++ t)
+          split known l true g = none-comes known (eqb-true (length t) 0 g)
+          split known l false g = all-later known (omega (arith, eqb-false (length t) 0 g)) l
+
+  -- a portion fed to the state of some bytes gives the state of both
+  pub fed-state : fed (stateOf first s) t ≡ stateOf first (s ++ t)
+  unfolding fed stateOf
+  fed-state = go (onlyCounted (stateOf first s .progress) (length t)) refl
+    where
+      go : (b : Bool) → onlyCounted (stateOf first s .progress) (length t) ≡ b
+          → cond b (stateWith (counted (stateOf first s .progress) (length t)) (stateOf first s .head) (stateOf first s .«provider_type») (stateOf first s .properties))
+          (gathered (stateOf first s) t)
+          ≡ stateOf first (s ++ t)
+      go true e = counted-state e
+      go false e = gathered-state first s t
 
 window-nil : (n at : ℕ) → window n [] at ≡ replicate n 0
 unfolding window

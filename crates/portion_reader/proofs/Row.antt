@@ -1,16 +1,16 @@
 -- The row of numbers and back.
-use Prim.Native.Nat.{ℕ, zero, suc, _+_, _*_, _≤_, _<_, min}
-use mathlib.Core.Path.{_≡_, refl, sym, ap, _∙_}
+use Prim.Native.Nat.{ℕ, zero, suc, _+_, _*_, _<_}
+use mathlib.Core.Path.{_≡_, refl}
 use mathlib.Core.Bool.{Bool, true, false, not, _||_, cond}
 use mathlib.Core.List.{List, [], _∷_}
 use native.Mathlib.Nat.{mod-eq-of-lt, mod-lt}
 use native.Mathlib.Omega.{arith}
 use borrow.Author.Tests.{leb-false}
-use lib.ListN.{length, getD, take, drop, set}
+use lib.ListN.{getD, take, drop}
 use lib.Seq.{getD-drop}
 use lib.Dec.{eqb, leb}
 use Rattle.octets.specs.Octets.{Octets}
-use Rattle.rules.specs.Refusal.{bytes, limit}
+use Rattle.rules.specs.Refusal.{limit}
 use Rattle.portions.specs.Name.{named, withByte, withUnit}
 use Rattle.portions.specs.declared.name.NameProgress.{NameProgress}
 use Rattle.portions.specs.declared.state.Progress.{Progress}

@@ -1,6 +1,6 @@
 -- Each call by whether the state is finished.
 use Prim.Native.Nat.{ℕ, _+_, _-_, min}
-use mathlib.Core.Path.{_≡_, refl, sym, ap, subst, _∙_}
+use mathlib.Core.Path.{_≡_, refl, sym, ap, _∙_}
 use mathlib.Core.Bool.{Bool, true, false, not, _&&_, cond, and-eq-true-iff}
 use mathlib.Core.List.{List, [], _∷_}
 use native.Mathlib.Omega.{arith}
@@ -9,7 +9,7 @@ use lib.ListN.{length, set}
 use Rattle.octets.specs.Octets.{Octets}
 use Rattle.rules.specs.Refusal.{bytes}
 use Rattle.portions.specs.Finish.{finishState, finishedProgress}
-use Rattle.portions.specs.Name.{noName, named}
+use Rattle.portions.specs.Name.{noName}
 use Rattle.portions.specs.Portion.{portionAnswer, portionState}
 use Rattle.portions.specs.State.{counted, fed, gathered, nameIn, nameThen, onlyCounted, placesAfter, placesOf, reach, stateOf, stateWith}
 use Rattle.portions.specs.Window.{shown, window}

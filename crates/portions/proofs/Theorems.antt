@@ -1,20 +1,16 @@
 -- The states that the calls make, and what they answer.
 use Prim.Native.Nat.{ℕ}
-use mathlib.Core.Path.{_≡_, refl, sym, ap, subst, _∙_}
+use mathlib.Core.Path.{_≡_, refl, sym, ap, _∙_}
 use mathlib.Core.Bool.{Bool, true, false, true≢false}
 use mathlib.Core.List.{List, [], _∷_, _++_, append-assoc, append-nil}
-use Rattle.rules.specs.Reading.{summarize}
-use Rattle.rules.specs.declared.section.Summarized.the-variants.{Accepted}
-use Rattle.rules.specs.declared.section.Summary.{Summary}
 use Rattle.secrecy.specs.WithoutName.{SameWithoutName}
 use Rattle.secrecy.proofs.WithoutName.{without-name}
 use Rattle.portions.specs.Calls.{Call, portion, finish, after, afterAll, finishes, joined, made}
 use Rattle.portions.specs.Finish.{finishAnswer, finishState, finishedProgress, heldLabel}
-use Rattle.portions.specs.Portion.{portionAnswer, portionState}
-use Rattle.portions.specs.State.{fed, stateOf}
+use Rattle.portions.specs.Portion.{portionState}
+use Rattle.portions.specs.State.{stateOf}
 use Rattle.portions.specs.Theorems.{Going, Over, SameHere, SlowLink}
 use Rattle.portions.specs.declared.portion.PortionAnswer.the-variants.{Taken}
-use Rattle.portions.specs.declared.state.Progress.{Progress}
 use Rattle.portions.specs.declared.state.State.{State}
 use Rattle.portions.proofs.Laws.Answer.{label-held, state-answer}
 use Rattle.portions.proofs.Laws.Call.{answered, refused-again, refused-answer, refused-state, taken-answer, taken-state}

@@ -1,6 +1,6 @@
 -- The finish: "the summary or refusal that one-go reading gives for all portions joined, the refusal order included", from what is kept of them.
 use Prim.Native.Nat.{ℕ}
-use mathlib.Core.Bool.{Bool, true, cond}
+use mathlib.Core.Bool.{true, cond}
 use mathlib.Core.List.{List}
 use lib.ListN.{take, drop}
 use lib.Dec.{eqb}

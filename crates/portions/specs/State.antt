@@ -1,7 +1,7 @@
 -- C-12: what is kept of the bytes so far, as a function of them; and a portion.
 use Prim.Native.Nat.{ℕ, _+_, _-_, min}
 use mathlib.Core.List.{List}
-use mathlib.Core.Bool.{Bool, true, false, _&&_, _||_, cond}
+use mathlib.Core.Bool.{Bool, false, _&&_, _||_, cond}
 use lib.ListN.{length, take, drop}
 use lib.Dec.{leb, ltb}
 use Rattle.rules.specs.Refusal.{bytes, limit}
@@ -10,7 +10,6 @@ use Rattle.rules.specs.declared.security.SecurityFields.{SecurityFields}
 use Rattle.reading.specs.Fields.{securityRead}
 use Rattle.portions.specs.Name.{named, noName}
 use Rattle.portions.specs.Window.{window, shown}
-use Rattle.portions.specs.declared.name.NameProgress.{NameProgress}
 use Rattle.portions.specs.declared.place.Places.{Places}
 use Rattle.portions.specs.declared.state.Progress.{Progress}
 use Rattle.portions.specs.declared.state.State.{State}

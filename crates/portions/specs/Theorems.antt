@@ -3,7 +3,7 @@ use Prim.Native.Nat.{ℕ}
 use mathlib.Core.Path.{_≡_}
 use mathlib.Core.Logic.{_↔_}
 use mathlib.Core.Bool.{Bool, true, false}
-use mathlib.Core.List.{List, []}
+use mathlib.Core.List.{List}
 use Rattle.octets.specs.Octets.{Octets}
 use Rattle.rules.specs.Reading.{summarize}
 use Rattle.rules.specs.Refusal.{refusal}

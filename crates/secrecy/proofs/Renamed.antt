@@ -1,5 +1,5 @@
 -- An accepted section with another provider name, which is text too, is accepted with the same summary and label.
-use Prim.Native.Nat.{ℕ, _+_, _-_, _≤_, _<_}
+use Prim.Native.Nat.{ℕ, _+_, _≤_}
 use mathlib.Core.Path.{_≡_, refl, sym, ap, subst, _∙_}
 use mathlib.Core.Bool.{Bool, true, false, cond}
 use mathlib.Core.List.{List, []}
@@ -9,7 +9,6 @@ use lib.ListN.{length, getD, drop}
 use lib.Seq.{getD-drop}
 use lib.Dec.{eqb}
 use Rattle.octets.specs.Number.{le}
-use Rattle.octets.specs.Padding.{padded}
 use Rattle.octets.specs.Part.{within}
 use Rattle.octets.proofs.Laws.Number.{le-cong}
 use Rattle.octets.proofs.Laws.Padding.{le-padded}
@@ -27,9 +26,7 @@ use Rattle.rules.proofs.Laws.Accepted.{HeaderPassed, SectionPassed, SecurityPas
 use Rattle.rules.proofs.Laws.AmendedPlaces.{provider-even}
 use Rattle.rules.proofs.Laws.Fixed.{properties-same, security-same}
 use Rattle.secrecy.proofs.Alike.{Same, within-same}
-use Rattle.secrecy.proofs.Properties.{SameProperties}
 use Rattle.secrecy.proofs.ReadAlike.{properties-reads}
-use Rattle.secrecy.specs.Demand3.{sectionLength}
 use Rattle.secrecy.specs.WithoutName.{InName}
 
 -- the same bytes outside the name

@@ -6,7 +6,7 @@ use mathlib.Core.List.{List, [], _∷_}
 use native.Mathlib.Decide.{decLe, decLt}
 use native.Mathlib.Nat.{zero-add, add-zero}
 use native.Mathlib.Omega.{arith}
-use borrow.Author.Tests.{le-leb, leb-false, leb-true, lt-ltb, ltb-false, ltb-true}
+use borrow.Author.Tests.{le-leb, leb-true, lt-ltb, ltb-false, ltb-true}
 use lib.ListN.{length, getD, drop, length-drop, List·getD-eq-default}
 use lib.Seq.{ext-getD, getD-drop}
 use lib.Dec.{eqb, leb, ltb}
@@ -16,7 +16,7 @@ use Rattle.octets.specs.Text.{isText}
 use Rattle.octets.proofs.Laws.Part.{getD-within, length-within}
 use Rattle.rules.specs.Judged.{Agrees, bit, judged}
 use Rattle.rules.specs.Properties.{propertiesLength}
-use Rattle.rules.specs.Reading.{SameSummary, summarize}
+use Rattle.rules.specs.Reading.{summarize}
 use Rattle.rules.specs.Security.{providerText, securityFields, securityParts}
 use Rattle.rules.specs.Summary.{labelOf, partOf, propertiesAt, providerNameOf}
 use Rattle.rules.specs.declared.section.Summarized.the-variants.{Accepted}
@@ -25,9 +25,7 @@ use Rattle.rules.specs.declared.security.SecurityParts.{SecurityParts}
 use Rattle.rules.proofs.Laws.Accepted.{SectionPassed, section-fits, section-passed, security-fields}
 use Rattle.rules.proofs.Laws.Fixed.{security-same}
 use Rattle.secrecy.proofs.Demand3.{agrees-reads, demand3}
-use Rattle.secrecy.proofs.ReadAlike.{Reads, reads-accepted}
 use Rattle.secrecy.proofs.Renamed.{Renamed, name-end, provider-behind, renamed}
-use Rattle.secrecy.specs.Demand3.{sectionLength}
 use Rattle.secrecy.specs.WithoutName.{AgreesOutsideName, InName, SameWithoutName, WithoutName}
 
 -- t from its byte k on, with the bytes of s from a to b

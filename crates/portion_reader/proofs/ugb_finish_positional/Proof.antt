@@ -1,6 +1,5 @@
 -- The answer is handed on; the counters change at the first finish.
 use denote.Ref.{now}
-use mathlib.Core.Bool.{Bool}
 use mathlib.Core.Path.{_≡_, refl, sym, ap, _∙_}
 use borrow.Author.Needs.{needs}
 use Rattle.octets.proofs.Laws.Steps.{answers, passed, the}

@@ -1,5 +1,5 @@
 -- Only counted, or the answer picks the case; the state's bytes are as the portion left them.
-use Prim.Native.Nat.{ℕ, _+_, min}
+use Prim.Native.Nat.{_+_, min}
 use denote.Ref.{now}
 use mathlib.Core.Bool.{Bool, not, _&&_, and-eq-true-iff}
 use mathlib.Core.Path.{_≡_, sym, ap, _∙_}

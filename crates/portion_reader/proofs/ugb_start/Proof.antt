@@ -2,7 +2,6 @@
 use mathlib.Core.Path.{ap, _∙_}
 use borrow.Author.Needs.{needs}
 use Rattle.octets.proofs.Laws.Steps.{the}
-use Rattle.portions.specs.declared.state.State.{State}
 use Rattle.portion_reader.specs.Answer.{stateAnswer}
 use Rattle.portion_reader.proofs.ugb_start.Statement.{statement}
 use Rattle.portion_reader.proofs.ugb_start.Tie as tie

@@ -4,29 +4,26 @@ use mathlib.Core.Path.{_≡_, refl, sym, ap, ap₂, subst, _∙_}
 use mathlib.Core.Bool.{Bool, true, false, cond}
 use mathlib.Core.List.{List}
 use native.Mathlib.Omega.{arith}
-use borrow.Author.Tests.{eq-eqb, eqb-false, eqb-true, ne-eqb}
+use borrow.Author.Tests.{eqb-false, eqb-true}
 use lib.ListN.{length, getD, take, drop}
 use lib.Dec.{eqb}
 use Rattle.octets.specs.Number.{le}
 use Rattle.octets.specs.Part.{within}
-use Rattle.octets.specs.Padding.{padded}
 use Rattle.octets.proofs.Laws.Number.{le-cong}
 use Rattle.octets.proofs.Laws.Padding.{le-padded}
 use Rattle.rules.specs.Place.{nameBreak, propertiesRefusal, sectionRefusal, securityRefusal}
-use Rattle.rules.specs.Properties.{labelBytes, propertiesFields, propertiesLength, propertiesParts, propertiesSteps, readProperties}
+use Rattle.rules.specs.Properties.{labelBytes, propertiesLength, propertiesParts, propertiesSteps, readProperties}
 use Rattle.rules.specs.Reading.{fieldsAt, headerAt, identityAt, judge, labelAt, propertiesNumber, providerInfoAt, securityHeader, securityNumber, startAt, summarize, summaryAt}
 use Rattle.rules.specs.Refusal.{limit}
 use Rattle.rules.specs.Security.{ST, identityHead, providerAt, providerText, readSecurity, securityContents, securityFields, securityLength, securityParts, securitySteps}
 use Rattle.rules.specs.Summary.{labelOf, noSecurity, summaryOf}
 use Rattle.rules.specs.declared.properties.PropertiesFields.{PropertiesFields}
 use Rattle.rules.specs.declared.refusal.Refusal.{Refusal}
-use Rattle.rules.specs.declared.section.Summarized.{Summarized}
 use Rattle.rules.specs.declared.section.Summarized.the-variants.{Accepted, Refused}
 use Rattle.rules.specs.declared.section.Summary.{Summary}
 use Rattle.rules.specs.declared.security.SecurityFields.{SecurityFields}
 use Rattle.rules.specs.declared.security.SecurityHeader.{SecurityHeader}
 use Rattle.rules.proofs.Laws.Accepted.{accepted-at, judge-passed, properties-fits, security-number}
-use Rattle.rules.proofs.Laws.Place.{no-number}
 use Rattle.reading.specs.Fields.{propertiesRead, securityRead}
 use Rattle.reading.specs.Held.{heldHeader, heldSecurity, heldSummary}
 use Rattle.reading.proofs.Laws.Fields.{header-bytes, start-passed}

@@ -1,14 +1,13 @@
 -- A whole SecurityHeader: what is held of identity, provider type and name is what reading sees of them.
-use Prim.Native.Nat.{ℕ, _+_, _*_, _-_, _/_, _%_, _≤_, _<_, min}
+use Prim.Native.Nat.{ℕ, _+_, _*_, _-_, _≤_, _<_, min}
 use mathlib.Core.Path.{_≡_, refl, sym, ap, ap₂, _∙_}
-use mathlib.Core.Bool.{Bool, true, false, not, _&&_, _||_, cond}
+use mathlib.Core.Bool.{Bool, true, false, not, _||_}
 use mathlib.Core.List.{List, []}
 use native.Mathlib.Omega.{arith}
-use borrow.Author.Tests.{eq-eqb, eqb-false, eqb-true, ne-eqb}
+use borrow.Author.Tests.{eqb-false, eqb-true}
 use lib.ListN.{length, getD, take, drop, length-drop}
 use lib.Seq.{drop-drop, getD-drop, getD-take}
 use lib.Dec.{eqb}
-use Rattle.octets.specs.Padding.{padded}
 use Rattle.octets.specs.Part.{within}
 use Rattle.octets.specs.Text.{breakAt, firstBreak, firstZero, units}
 use Rattle.octets.proofs.Laws.Padding.{le-padded}
@@ -16,7 +15,7 @@ use Rattle.octets.proofs.Laws.Part.{getD-within, length-within, within-in, with
 use Rattle.rules.specs.Place.{nameBreak}
 use Rattle.rules.specs.Reading.{identityAt, providerInfoAt}
 use Rattle.rules.specs.Refusal.{limit}
-use Rattle.rules.specs.Security.{ST, certAt, identityHead, keyAt, providerAt, providerText, securityContents, securityFields, securityLength, securityParts, securitySteps, signatureAt}
+use Rattle.rules.specs.Security.{ST, certAt, identityHead, keyAt, providerAt, providerText, securityFields, securityLength, securityParts, securitySteps, signatureAt}
 use Rattle.rules.specs.declared.security.SecurityFields.{SecurityFields}
 use Rattle.rules.proofs.Laws.Accepted.{SecurityFits, identity-le, security-fits}
 use Rattle.rules.proofs.Laws.AmendedPlaces.{provider-even}

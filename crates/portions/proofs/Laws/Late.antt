@@ -4,7 +4,7 @@ use mathlib.Core.Path.{_≡_, refl, sym, ap, _∙_}
 use mathlib.Core.Bool.{Bool, true, false, cond}
 use mathlib.Core.List.{List}
 use native.Mathlib.Omega.{arith}
-use borrow.Author.Tests.{eq-eqb, eqb-true, le-ltb, lt-ltb, ltb-false, ltb-true, ne-eqb}
+use borrow.Author.Tests.{eqb-true, le-ltb, lt-ltb, ltb-false, ltb-true}
 use lib.Dec.{eqb, ltb}
 use Rattle.rules.specs.Place.{propertiesPlace, propertiesRefusal, securityPlace, securityRefusal}
 use Rattle.rules.specs.Properties.{labelContents, propertiesLength, propertiesSteps, readProperties}

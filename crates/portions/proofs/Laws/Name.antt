@@ -1,5 +1,5 @@
 -- A name is judged by its first zero unit, byte by byte.
-use Prim.Native.Nat.{ℕ, zero, suc, _+_, _*_, _-_, _/_, _%_, _≤_, _<_, min}
+use Prim.Native.Nat.{ℕ, suc, _+_, _*_, _-_, _/_, _%_, _≤_, min}
 use mathlib.Core.Path.{_≡_, refl, sym, ap, _∙_}
 use mathlib.Core.List.{List, [], _∷_, _++_}
 use mathlib.Core.Bool.{Bool, true, false, _||_, cond, true≢false}
@@ -8,7 +8,7 @@ use native.Mathlib.Omega.{arith}
 use borrow.Author.Tests.{eq-eqb, eqb-false, eqb-true, lt-leb, lt-ltb, ne-eqb}
 use lib.ListN.{length}
 use lib.Dec.{eqb, ltb, leb, leb·suc-suc}
-use Rattle.octets.specs.Text.{breakAt, firstBreak, firstZero, isText, lastOnly, units}
+use Rattle.octets.specs.Text.{breakAt, firstBreak, firstZero, isText, units}
 use Rattle.octets.proofs.Laws.Text.{lastOnly-firstZero, length-units}
 use Rattle.rules.specs.Refusal.{limit}
 use Rattle.portions.specs.Name.{named, noName, withByte, withUnit}

@@ -1,16 +1,13 @@
 -- Where the bytes lie that are held or judged: behind the fixed bytes, within reach, and the same once those have come.
-use Prim.Native.Nat.{ℕ, _+_, _-_, _≤_, min}
+use Prim.Native.Nat.{ℕ, _+_, _-_, _≤_}
 use mathlib.Core.Path.{_≡_, refl, sym, ap, _∙_}
 use mathlib.Core.List.{List, _++_}
-use mathlib.Core.Bool.{Bool, true, false, cond}
+use mathlib.Core.Bool.{Bool, true, false}
 use native.Mathlib.Omega.{arith}
-use borrow.Author.Tests.{le-ltb, lt-ltb, ltb-true, ltb-false}
 use lib.ListN.{length, getD, List·getD-append}
-use lib.Dec.{ltb}
 use Rattle.octets.proofs.Laws.Part.{whole-in}
 use Rattle.rules.specs.Refusal.{limit}
 use Rattle.rules.specs.Security.{certAt, keyAt, providerAt, securityFields, securityLength, signatureAt}
-use Rattle.rules.specs.declared.security.SecurityFields.{SecurityFields}
 use Rattle.rules.proofs.Laws.Fixed.{security-same}
 use Rattle.reading.specs.Fields.{securityRead}
 use Rattle.portions.specs.State.{placesIn, placesOf}

@@ -8,7 +8,7 @@ use borrow.Author.Tests.{eqb-false, eqb-true, leb-true, ltb-true, ltb-false}
 use lib.ListN.{length, getD, take, drop, length-append, length-drop, replicate, drop-of-length-le, List·getD-append, List·getD-eq-default}
 use lib.Seq.{take-nil}
 use lib.Dec.{eqb, leb, ltb}
-use Rattle.rules.specs.Refusal.{bytes, limit}
+use Rattle.rules.specs.Refusal.{bytes}
 use Rattle.portions.specs.Name.{named, noName}
 use Rattle.portions.specs.State.{counted, fed, gathered, nameIn, nameThen, onlyCounted, placesAfter, placesOf, reach, stateOf, stateWith}
 use Rattle.portions.specs.Window.{window, shown}

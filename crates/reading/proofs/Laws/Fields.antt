@@ -1,5 +1,5 @@
 -- What the code reads of an input that passed the steps is what the definitions read.
-use Prim.Native.Nat.{ℕ, _+_, _%_, _^_, _≤_, _<_, min}
+use Prim.Native.Nat.{ℕ, _+_, _%_, _^_, _≤_, _<_}
 use mathlib.Core.Path.{_≡_, refl, sym, ap, _∙_}
 use mathlib.Core.Bool.{Bool, true, false, _&&_, _||_, cond, and-eq-true-iff}
 use mathlib.Core.List.{List, []}
@@ -22,7 +22,7 @@ use Rattle.rules.specs.Security.{DE, ST, certAt, keyAt, providerAt, providerSiz
 use Rattle.rules.specs.Summary.{noSecurity, summaryOf}
 use Rattle.rules.specs.declared.security.SecurityFields.{SecurityFields}
 use Rattle.rules.specs.declared.security.SecurityHeader.{SecurityHeader}
-use Rattle.rules.proofs.Laws.Accepted.{HeaderPassed, SectionPassed, header-fits, identity-le, judge-passed, security-number}
+use Rattle.rules.proofs.Laws.Accepted.{header-fits, identity-le, judge-passed, security-number}
 use Rattle.reading.specs.Fields.{SecuritySizes, propertiesRead, securityRead, startRead}
 
 pub security-read : (s : List ℕ) → 16 ≤ length s → securityRead s ≡ securityFields s

@@ -3,7 +3,6 @@ use Prim.Native.Nat.{ℕ, _+_, min}
 use denote.Ref.{now}
 use mathlib.Core.Bool.{false}
 use mathlib.Core.Path.{_≡_, sym, ap, ap₂, _∙_}
-use mathlib.Core.List.{List}
 use native.Mathlib.Omega.{arith}
 use borrow.Author.Needs.{needs}
 use Rattle.octets.specs.Part.{within}
@@ -12,9 +11,8 @@ use Rattle.rules.specs.Place.{nameBreak, refusalAt, securityPlace}
 use Rattle.rules.specs.Properties.{labelBytes, readProperties}
 use Rattle.rules.specs.Refusal.{limit, refusal}
 use Rattle.rules.specs.Security.{providerAt}
-use Rattle.rules.specs.declared.properties.PropertiesFields.{PropertiesFields}
 use Rattle.rules.specs.declared.security.SecurityFields.{SecurityFields}
-use Rattle.portions.specs.Finish.{heldLabel, heldNumber}
+use Rattle.portions.specs.Finish.{heldNumber}
 use Rattle.portions.specs.Name.{nameBreakOf}
 use Rattle.portions.proofs.Laws.Judge.{judged-properties, judged-security, start-held, startHeld}
 use Rattle.portions.proofs.finish.judge.Statement.{statement}

@@ -1,5 +1,4 @@
 -- The bytes behind the fixed ones, two to a unit.
-use Prim.Native.Nat.{ℕ}
 use denote.Ref.{now}
 use mathlib.Core.Path.{ap, _∙_}
 use borrow.Author.Needs.{needs}

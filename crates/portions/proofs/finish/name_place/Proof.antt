@@ -1,6 +1,6 @@
 -- The sum of the three: where provider info begins, its type, and the unit behind it.
-use Prim.Native.Nat.{_-_, _*_, min}
-use mathlib.Core.Path.{_≡_, ap₂, _∙_}
+use Prim.Native.Nat.{min}
+use mathlib.Core.Path.{ap₂, _∙_}
 use native.Mathlib.Omega.{arith}
 use borrow.Author.Needs.{needs}
 use Rattle.octets.proofs.Laws.Steps.{the}

@@ -1,9 +1,8 @@
 -- No provider info, or all units of the name but the last before the first zero unit.
-use Prim.Native.Nat.{_+_, _*_, _-_}
-use mathlib.Core.Path.{_≡_, ap₂, _∙_}
+use Prim.Native.Nat.{_+_, _*_}
+use mathlib.Core.Path.{_≡_, ap₂}
 use native.Mathlib.Omega.{arith}
 use borrow.Author.Needs.{needs}
-use borrow.Author.Tests.{eq-eqb, ne-eqb}
 use lib.Dec.{eqb}
 use Rattle.octets.proofs.Laws.Steps.{steps, the}
 use Rattle.portions.specs.Name.{nameText}

@@ -1,7 +1,7 @@
 -- The part of the portion that is left of the name.
 use Prim.Native.Nat.{ℕ, _-_}
 use denote.Ref.{now}
-use mathlib.Core.Path.{_≡_, ap, ap₂, _∙_}
+use mathlib.Core.Path.{ap, ap₂, _∙_}
 use borrow.Author.Needs.{needs}
 use lib.ListN.{take, drop}
 use Rattle.octets.proofs.Laws.Steps.{the}

@@ -1,7 +1,7 @@
 /*
  * Ugbariteyo for C: reads, judges, copies and writes the section of a message-queue packet (an optional SecurityHeader
- * and a MessagePropertiesHeader), the send requests and queue formats around it, and the records of a day's file. "01"
- * is the paper of exact rules that every function is proved to follow, on every input.
+ * and a MessagePropertiesHeader), whole or in portions, the send requests and queue formats around it, and the records
+ * of a day's file. "01" is the paper of exact rules that every function is proved to follow, on every input.
  *
  * Link libugbariteyo.a (x86-64 Linux). Installed: cc prog.c $(pkg-config --cflags --libs ugbariteyo). It needs memcpy,
  * memmove and memset, and nothing else.
@@ -10,12 +10,13 @@
  * valid for the length beside it, for the length of the call, and an output overlaps none of the inputs. With a length
  * of 0 any pointer will do, NULL included; one to a struct points to a struct. Nothing is allocated, kept or shared:
  * the caller owns every byte, any number of threads may call, and a part in an answer is a place in the caller's own
- * input.
+ * input, or in all portions joined.
  *
  * An answer holds a refusal. Its number is 0 (UGB_ACCEPTED) where nothing is refused, and only there; else every other
  * value of the answer is 0 or false, and no byte of the output was written, but for the slots that ugb_read_day fills
- * before a bad record (15). Bytes of an output behind what was written stay as they were. Unnamed bytes between the
- * members of a struct hold anything: compare members, not whole structs.
+ * before a bad record (15), and a ugb_finish that refuses the section is still the finish. Bytes of an output behind
+ * what was written stay as they were. Unnamed bytes between the members of a struct hold anything: compare members, not
+ * whole structs.
  *
  *     ugb_reading answer = ugb_read(bytes, length, true);
  *     if (answer.refusal.number != UGB_ACCEPTED) {
@@ -40,19 +41,19 @@ extern "C" {
 #endif
 
 #define UGB_VERSION_MAJOR 2
-#define UGB_VERSION_MINOR 1
+#define UGB_VERSION_MINOR 2
 #define UGB_VERSION_PATCH 0
-#define UGB_VERSION "2.1.0"
+#define UGB_VERSION "2.2.0"
 
 /* 01: a section has at most so many bytes. */
 #define UGB_LIMIT 4194304
 
 /* ---- Refusals */
 
-/* Every refusal: its name behind UGB_, its number, and the rule that was broken. A section is read with 1 to 12 and
- * written with 28, 2 to 4 and 6 to 12; a day's file is read with 16 and 15; a request is refused with 8, 10, 11 and 20
- * to 29; an image is read with 1 (under 4 bytes) and 30 to 33, and written with 30 to 33; 13 comes last in every call
- * that writes bytes. */
+/* Every refusal: its name behind UGB_, its number, and the rule that was broken. A section is read with 1 to 12, in
+ * portions with 14 too, and written with 28, 2 to 4 and 6 to 12; a day's file is read with 16 and 15; a request is
+ * refused with 8, 10, 11 and 20 to 29; an image is read with 1 (under 4 bytes) and 30 to 33, and written with 30 to 33;
+ * 13 comes last in every call that writes bytes. */
 #define UGB_REFUSALS(X)                                                                                                \
     X(INPUT_SHORT, 1, "input ends before the section does")                                                            \
     X(SENDER_KIND, 2, "ST above 2")                                                                                    \
@@ -67,6 +68,7 @@ extern "C" {
     X(ALLOCATION, 11, "AllocationBodySize below MessageSize or above 4,194,304")                                       \
     X(LABEL, 12, "label in which not only the last unit is zero")                                                      \
     X(OUTPUT_SHORT, 13, "output too short")                                                                            \
+    X(AFTER_THE_FINISH, 14, "portion or finish after the finish")                                                      \
     X(BAD_RECORD, 15, "wrong or cut record head, or cut section")                                                      \
     X(TOO_MANY_RECORDS, 16, "more records than slots, or than 256")                                                    \
     X(VALUE_OUT_OF_RANGE, 20,                                                                                          \
@@ -105,8 +107,8 @@ static inline const char *ugb_refusal_text(uint32_t number)
     }
 }
 
-/* The place of a refusal by reading is the offset in the input of what failed; by the section writer, that in the
- * section that would be written. The MessagePropertiesHeader begins at p.
+/* The place of a refusal by reading is the offset of what failed in the input, or in all portions joined; by the
+ * section writer, that in the section that would be written. The MessagePropertiesHeader begins at p.
  *
  *     1, 8   the header's start, 0 or p
  *     2, 3   0, Flags
@@ -124,7 +126,7 @@ static inline const char *ugb_refusal_text(uint32_t number)
  * last one does. */
 typedef struct ugb_refusal {
     uint32_t number; /* one of the numbers above */
-    size_t place;    /* as above; 0 for 13, 16, 28, requests and images */
+    size_t place;    /* as above; 0 for 13, 14, 16, 28, requests and images */
 } ugb_refusal;
 
 /* ---- Bytes, units and parts */
@@ -228,7 +230,7 @@ typedef struct ugb_section {
 } ugb_section;
 
 typedef struct ugb_summarized {
-    ugb_refusal refusal; /* 0, or 1 to 12 */
+    ugb_refusal refusal; /* 0, or 1 to 12; of ugb_finish also 14 */
     ugb_summary summary; /* the summary; all zero where refused */
 } ugb_summarized;
 
@@ -367,6 +369,68 @@ static inline size_t ugb_field_words(ugb_field found, char *out, size_t out_leng
     if (out_length > 0)
         out[length < out_length ? length : out_length - 1] = 0;
     return length;
+}
+
+/* ---- A section in portions */
+
+/* What is kept of a section that comes in portions, whatever its length. It lies where the caller puts it, but its
+ * members are the library's own: only a state that ugb_start, ugb_portion and ugb_finish made answers for a section. It
+ * may be copied, to go back to that point: each copy goes on by itself. Among its bytes are private ones, CorrelationID,
+ * ApplicationTag, X bits, and behind a short label those that follow it: it is not for support mail. */
+typedef struct ugb_portions {
+    size_t counters[10];      /* what was counted and judged; of the bytes below, those that did not come are 0 */
+    uint8_t head[18];         /* the section's first: the SecurityHeader's fixed bytes, and the identity's first two */
+    uint8_t provider_type[4]; /* the type at the front of the provider info */
+    uint8_t properties[556];  /* the MessagePropertiesHeader's fixed bytes, and the label */
+} ugb_portions;
+
+/* sizeof(ugb_portions), to plan with. */
+#define UGB_PORTIONS_SIZE 664
+
+/* What the archive has: ugb_portion and ugb_finish call it, with the state's own 10 numbers, 18, 4 and 556 bytes. */
+ugb_refusal ugb_portion_positional(size_t *counters, uint8_t *head, uint8_t *provider_type, uint8_t *properties,
+                                   const uint8_t *bytes, size_t length);
+ugb_summarized ugb_finish_positional(size_t *counters, const uint8_t *head, const uint8_t *provider_type,
+                                     const uint8_t *properties);
+
+/* The start of a section that comes a few bytes at a time, where there is no room for the whole.
+ *
+ *     ugb_portions state = ugb_start(security_first);
+ *     uint8_t buffer[32];
+ *     for (size_t length; (length = receive(buffer, sizeof buffer)) != 0;)
+ *         ugb_portion(&state, buffer, length);
+ *     ugb_summarized answer = ugb_finish(&state);
+ *     if (answer.refusal.number == UGB_ACCEPTED)
+ *         show(ugb_label_held(&state, &answer.summary));
+ *
+ * The answer is that of ugb_summarize for all portions joined, wherever they were cut, inside a field or a unit too. No
+ * portion at all is the empty input.
+ *
+ * Of the parts the label alone is held. The provider name is judged as it passes: of it the summary has the place and
+ * the length, both in security.parts.provider_info, and the type, but its content is not had from portions.
+ * ugb_refused_field looks into the section, so of a refusal there are only number and place. */
+ugb_portions ugb_start(bool security_first);
+
+/* Takes the next bytes, or none. Those behind the section are not read, in any number. What is wrong with the section
+ * is said at the finish; a portion is refused only after that, with 14, and the state stays as it was. */
+static inline ugb_refusal ugb_portion(ugb_portions *state, const uint8_t *bytes, size_t length)
+{
+    return ugb_portion_positional(state->counters, state->head, state->provider_type, state->properties, bytes, length);
+}
+
+/* The answer, once the sender says that the section is finished. Refused as ugb_summarize is, which is a finish too;
+ * after the finish with 14, and the state stays as it was. The next section begins with ugb_start. */
+static inline ugb_summarized ugb_finish(ugb_portions *state)
+{
+    return ugb_finish_positional(state->counters, state->head, state->provider_type, state->properties);
+}
+
+/* The bytes of the label, null included, in the state that ugb_finish gave this summary of; NULL and 0 of an empty
+ * label, or of a refusal. */
+static inline ugb_bytes ugb_label_held(const ugb_portions *state, const ugb_summary *summary)
+{
+    ugb_part label = {56, summary->parts.label.length};
+    return ugb_bytes_of(label, state->properties);
 }
 
 /* ---- Writing to a lent output, from its first byte on */

@@ -465,7 +465,7 @@ static void check_header(void)
     SAME(strcmp(version, UGB_VERSION), 0);
     SAME(strcmp(ugb_refusal_text(UGB_ACCEPTED), "accepted"), 0);
     SAME(strcmp(ugb_refusal_text(UGB_LABEL_LENGTH), "LabelLength above 250, or a label of an odd number of bytes"), 0);
-    SAME(strcmp(ugb_refusal_text(14), "unknown refusal"), 0);
+    SAME(strcmp(ugb_refusal_text(17), "unknown refusal"), 0);
 }
 
 int main(void)

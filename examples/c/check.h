@@ -54,6 +54,22 @@ static inline void put_security(uint16_t flags, const uint32_t sizes[5], size_t 
     put_properties(length, 0, 0);
 }
 
+/* A section with every part, whose MessagePropertiesHeader begins at P: 16 + 8 + 4 + 8 + 4 + 12, then 56 + 6 + 5 + 2,
+ * padded. Its provider name begins at 44. */
+enum { P = 52, LENGTH = 124 };
+
+static inline void put_whole(void)
+{
+    put_security(0x0081, (const uint32_t[5]){8, 3, 5, 2, 10}, P);
+    put(16, 1, 1);
+    put(44, 2, 'p');
+    put(46, 2, 'q');
+    put_properties(P, 3, 0);
+    put(P + 32, 4, 2);
+    put(P + 36, 4, 2);
+    put(P + 52, 4, 5);
+}
+
 static inline void pattern(void)
 {
     memset(out, 0xA5, sizeof out);

@@ -1,22 +1,6 @@
 /* The same for the places of refusals by reading, and for the fields that lie there. */
 #include "check.h"
 
-/* A section with every part, whose MessagePropertiesHeader begins at P: 16 + 8 + 4 + 8 + 4 + 12, then 56 + 6 + 5 + 2,
- * padded. Its provider name begins at 44. */
-enum { P = 52, LENGTH = 124 };
-
-static void put_whole(void)
-{
-    put_security(0x0081, (const uint32_t[5]){8, 3, 5, 2, 10}, P);
-    put(16, 1, 1);
-    put(44, 2, 'p');
-    put(46, 2, 'q');
-    put_properties(P, 3, 0);
-    put(P + 32, 4, 2);
-    put(P + 36, 4, 2);
-    put(P + 52, 4, 5);
-}
-
 /* By every reader, a record's too: refused with this, about what is called so. */
 static void refused_at(const uint8_t *s, size_t length, bool security_first, ugb_refusal refusal, const char *words)
 {
@@ -25,6 +9,10 @@ static void refused_at(const uint8_t *s, size_t length, bool security_first, ugb
     char found[UGB_WORDS];
     ugb_day_slot slot;
     same_refusal(ugb_read(s, length, security_first).refusal, refusal.number, refusal.place);
+    ugb_portions state = ugb_start(security_first);
+    for (size_t i = 0; i < length; i++)
+        same_refusal(ugb_portion(&state, s + i, 1), UGB_ACCEPTED, 0);
+    same_refusal(ugb_finish(&state).refusal, refusal.number, refusal.place);
     pattern();
     refused(ugb_support_copy(s, length, security_first, out, sizeof out), refusal.number, refusal.place);
     memcpy(file, head, sizeof head);

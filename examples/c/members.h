@@ -1,5 +1,5 @@
-/* The numbers and marks in each struct of an answer, but for its refusal: X of each. A test that a list is whole stands
- * below it: what it leaves out are so many unnamed bytes between members. */
+/* The members of each struct of an answer, but for its refusal, and of a state: X of each number, mark and array. A
+ * test that a list is whole stands below it: what it leaves out are so many unnamed bytes between members. */
 #include "ugbariteyo.h"
 
 #define PART(X, at) X(at.start) X(at.length)
@@ -58,6 +58,8 @@
 
 #define DAY(X, at) X(at.records)
 
+#define PORTIONS(X, at) X(at.counters) X(at.head) X(at.provider_type) X(at.properties)
+
 #define SIZE(member) +sizeof(member)
 #define WHOLE(list, type, unnamed)                                                                                     \
     static inline void whole_##type(type at)                                                                           \
@@ -73,3 +75,5 @@ WHOLE(SENT, ugb_sent, sizeof(ugb_refusal) + 7)
 WHOLE(RECORD, ugb_record, sizeof(uint32_t) + sizeof(ugb_refusal) + 13)
 WHOLE(RECORD_VALUES, ugb_day_slot, sizeof(ugb_refusal))
 WHOLE(DAY, ugb_day, sizeof(ugb_refusal))
+WHOLE(PORTIONS, ugb_portions, 6)
+_Static_assert(sizeof(ugb_portions) == UGB_PORTIONS_SIZE, "the size that the header says");

@@ -61,6 +61,7 @@ impl<T> Lent<T> for &[T] {
 
 mod day;
 mod field;
+mod portions;
 mod properties;
 mod queue;
 mod record;
@@ -70,6 +71,7 @@ mod write;
 
 pub(crate) use day::read_day;
 pub(crate) use field::{refused_field, Field};
+pub(crate) use portions::{Portions, Summarized};
 pub(crate) use properties::{properties_of, Handling, Privacy, Properties, Sender};
 pub(crate) use queue::{read_image, write_image, QueueFormat};
 pub(crate) use record::{next_record, Record};

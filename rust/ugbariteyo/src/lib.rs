@@ -3,7 +3,8 @@
 //!
 //! Every call answers for every input: the answer, or a [`Refusal`] with its number and place. Nothing has to
 //! be checked beforehand, no call panics, a refusal leaves a lent output as it stood (but for the slots that
-//! [`read_day`] fills before a bad record), and what is read is borrowed from the input.
+//! [`read_day`] fills before a bad record), and what is read is borrowed from the input, or from the [`Portions`] that
+//! took it.
 //!
 //! The functions behind this crate are proved to answer as the exact rules say. What is not proved is this
 //! crate itself: it lends the slices, and takes the parts out of the input by their places.
@@ -26,6 +27,29 @@
 //! assert_eq!(refusal.kind(), Some(Kind::InputShort));
 //! assert_eq!(refusal.to_string(), "refused with 1 at 0: input ends before the section does");
 //! # Ok::<(), ugbariteyo::Refusal>(())
+//! ```
+//!
+//! # A section in portions
+//!
+//! Over a slow link a section comes a few bytes at a time. [`Portions`] takes them as they come, has 664 bytes whatever
+//! the section's length, and gives the summary once the sender is finished, with the label and without the provider's
+//! name.
+//!
+//! ```no_run
+//! use std::io::Read;
+//! use ugbariteyo::{First, Portions};
+//!
+//! let mut link = std::net::TcpStream::connect("scanner:1801")?;
+//! let mut portions = Portions::new(First::SecurityHeader);
+//! let mut buffer = [0; 32];
+//! loop {
+//!     match link.read(&mut buffer)? {
+//!         0 => break,
+//!         length => portions.portion(&buffer[..length])?,
+//!     }
+//! }
+//! println!("{}", portions.finish()?.label);
+//! # Ok::<(), Box<dyn std::error::Error>>(())
 //! ```
 //!
 //! # Which field was refused
@@ -146,6 +170,7 @@ mod ffi;
 mod field;
 mod flags;
 mod part;
+mod portions;
 mod properties;
 mod queue;
 mod reading;
@@ -162,6 +187,7 @@ pub use day::{read_day, DaySlot, DAY_MOST};
 pub use field::{field_at, Field, FieldAt};
 pub use flags::{PropertiesFlags, SecurityFlags};
 pub use part::Part;
+pub use portions::Portions;
 pub use properties::{Handling, Privacy, Properties, Sender};
 pub use queue::{read_image, write_image, write_image_parts, Image, QueueFormat, Value};
 pub use reading::Reading;

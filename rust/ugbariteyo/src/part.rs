@@ -42,7 +42,8 @@ impl From<ffi::Part> for Part {
 
 // The four functions below are the only ones of the crate that can panic, and they cannot: they are called with an
 // accepted answer and what the library was lent for it, and it is proved to answer with parts that lie in what was lent
-// and have their type's length, and to keep no more of a title or a signature than there is.
+// and have their type's length (of portions, with a label for which their state has room), and to keep no more of a
+// title or a signature than there is.
 
 /// What was taken from parts that the library found.
 #[inline]

@@ -58,7 +58,7 @@ impl<'a> Reading<'a> {
     /// The summary, which holds nothing private.
     #[inline]
     pub fn summary(&self) -> Summary<'a> {
-        Summary::new(&self.answer.section.summary, self.input)
+        Summary::new(&self.answer.section.summary, self.label_text(), self.provider_name())
     }
 
     /// The properties of the message, as far as its section carries them: both times and what else
@@ -189,8 +189,7 @@ impl<'a> Reading<'a> {
     /// The provider's type, where there is provider info.
     #[inline]
     pub fn provider_type(&self) -> Option<u32> {
-        let security = self.security();
-        (security.parts.provider_info.length != 0).then_some(security.provider_type)
+        self.security().given_type()
     }
 
     /// The provider's name.

@@ -5,8 +5,8 @@ use std::fmt;
 
 /// Why a call was refused, and where.
 ///
-/// The place of a refusal by reading is the offset in the input of what failed; by the section writer, that in the
-/// section that would be written. The MessagePropertiesHeader begins at p.
+/// The place of a refusal by reading is the offset of what failed in the input, or in all portions joined; by the
+/// section writer, that in the section that would be written. The MessagePropertiesHeader begins at p.
 ///
 /// | number | place |
 /// |---|---|
@@ -26,9 +26,9 @@ use std::fmt;
 /// the last one does. [`field`](Self::field) says which field lies there.
 #[derive(Debug, Clone, Copy, PartialEq, Eq, Hash)]
 pub struct Refusal {
-    /// The number of the refusal: 1 to 13, 15, 16 or 20 to 33.
+    /// The number of the refusal: 1 to 16 or 20 to 33.
     pub number: u32,
-    /// Where in the input, or in the section that would be written; for 15 which record; 0 for 13, 16 and 28, for
+    /// Where in the input, or in the section that would be written; for 15 which record; 0 for 13, 14, 16 and 28, for
     /// requests and for queue formats.
     pub place: usize,
 }
@@ -92,6 +92,7 @@ kinds! {
     Allocation = 11, "AllocationBodySize below MessageSize or above 4,194,304";
     Label = 12, "label in which not only the last unit is zero";
     OutputShort = 13, "output too short";
+    AfterTheFinish = 14, "portion or finish after the finish";
     BadRecord = 15, "wrong or cut record head, or cut section";
     TooManyRecords = 16, "more records than slots, or than 256";
     ValueOutOfRange = 20, "priority above 7, trace or delivery above 1, acknowledge above 15, or auditing above 3";

@@ -2,7 +2,7 @@
 
 use crate::ffi;
 use crate::flags::{PropertiesFlags, SecurityFlags};
-use crate::part::{found, Part};
+use crate::part::Part;
 use crate::section::First;
 use crate::text::{Text, Units};
 
@@ -30,7 +30,7 @@ pub struct Security<'a> {
     pub sid_sub_authority_count: u8,
     /// The provider's type, where there is provider info.
     pub provider_type: Option<u32>,
-    /// The provider's name.
+    /// The provider's name; empty of a section that came in portions.
     pub provider_name: Text<'a>,
 }
 
@@ -84,12 +84,12 @@ pub struct Summary<'a> {
 
 impl<'a> Summary<'a> {
     #[inline]
-    pub(crate) fn new(summary: &ffi::Summary, input: &'a [u8]) -> Self {
+    pub(crate) fn new(summary: &ffi::Summary, label: Text<'a>, provider_name: Text<'a>) -> Self {
         let has_security = summary.security_first == First::SecurityHeader;
         let properties = &summary.properties;
         let parts = &summary.parts;
         Self {
-            security: has_security.then(|| Security::new(&summary.security, input)),
+            security: has_security.then(|| Security::new(&summary.security, provider_name)),
             flags: PropertiesFlags(properties.flags),
             label_length: Units(properties.label_length),
             message_class: properties.message_class,
@@ -107,16 +107,25 @@ impl<'a> Summary<'a> {
             authentication_fails: summary.authentication_fails,
             decryption_fails: summary.decryption_fails,
             retired: summary.retired,
-            label: Text::new(found(parts.label, input)),
+            label,
         }
+    }
+
+    /// The same without the content of the provider's name: what [`Portions`](crate::Portions) give of a section.
+    ///
+    /// Two such summaries of accepted inputs are equal exactly when the inputs agree in every judged bit outside the
+    /// provider's name.
+    #[inline]
+    pub fn without_provider_name(self) -> Self {
+        let without = |security| Security { provider_name: Text::default(), ..security };
+        Self { security: self.security.map(without), ..self }
     }
 }
 
 impl<'a> Security<'a> {
     #[inline]
-    fn new(security: &ffi::SecurityHeader, input: &'a [u8]) -> Self {
+    fn new(security: &ffi::SecurityHeader, provider_name: Text<'a>) -> Self {
         let parts = &security.parts;
-        let name = found(parts.provider_info, input).get(4..);
         Self {
             // only bits 0 to 11 are there
             flags: SecurityFlags(security.fields.flags as u16),
@@ -128,8 +137,8 @@ impl<'a> Security<'a> {
             length: parts.length,
             sid_revision: security.sid_revision,
             sid_sub_authority_count: security.sid_sub_authority_count,
-            provider_type: name.map(|_| security.provider_type),
-            provider_name: Text::new(name.unwrap_or_default()),
+            provider_type: security.given_type(),
+            provider_name,
         }
     }
 }

@@ -517,11 +517,11 @@ fn text_is_shown_without_its_null() {
 #[test]
 fn refusals_have_their_numbers_and_words() {
     let numbers: Vec<u32> = Kind::ALL.iter().map(|&kind| kind as u32).collect();
-    assert_eq!(numbers, (1..=13).chain(15..=16).chain(20..=33).collect::<Vec<_>>());
+    assert_eq!(numbers, (1..=16).chain(20..=33).collect::<Vec<_>>());
     for kind in Kind::ALL {
         assert_eq!(refused(kind, 0).kind(), Some(kind));
     }
-    assert_eq!(Refusal { number: 14, place: 0 }.kind(), None);
+    assert_eq!(Refusal { number: 17, place: 0 }.kind(), None);
     let error: Box<dyn std::error::Error> = refused(Kind::EmptyOrDpClear, 0).into();
     assert_eq!(error.to_string(), "refused with 4 at 0: all five sizes zero, or DP clear");
 }

@@ -35,6 +35,14 @@ pub(crate) struct SecurityHeader {
     pub provider_type: u32,
 }
 
+impl SecurityHeader {
+    /// The provider's type, where there is provider info.
+    #[inline]
+    pub fn given_type(&self) -> Option<u32> {
+        (self.parts.provider_info.length != 0).then_some(self.provider_type)
+    }
+}
+
 #[repr(C)]
 #[derive(Clone, Copy)]
 pub(crate) struct PropertiesFields {

@@ -7,6 +7,7 @@
 //!
 //! - [`read`], [`support_copy`], [`same_summary`], [`label_shown`]: sections read and copied;
 //!   [`is_support_copy`]: whether a copy is right that someone else made.
+//! - [`portions`]: a section that comes a few bytes at a time.
 //! - [`mod@write`]: sections written from values and parts.
 //! - [`queue`]: queue format images, [`request`]: send requests, [`properties`]: those of a request or of
 //!   a section, [`listing`]: day files, [`copies`]: their copies, [`day`]: one read in a single call.
@@ -31,6 +32,7 @@ mod lists;
 pub mod neighbours;
 mod order;
 pub mod planted;
+pub mod portions;
 pub mod properties;
 mod proposed;
 pub mod queue;

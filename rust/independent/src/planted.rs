@@ -1,12 +1,13 @@
 //! Wrong versions that a comparison has to find: for each kind one or two plain functions with their
 //! answer or their output changed a little, and every function with two neighbouring steps of its
-//! list exchanged. What C-15 says of a day's file, C-17 of places, C-18 of properties, and C-24 of copies and
-//! refusals has its wrong versions in files of their own.
+//! list exchanged. What C-12 says of portions, C-15 of a day's file, C-17 of places, C-18 of properties, and
+//! C-24 of copies and refusals has its wrong versions in files of their own.
 
 mod day;
 mod dependent;
 mod fields;
 mod places;
+mod portions;
 mod properties;
 mod proposed;
 
@@ -16,6 +17,7 @@ pub use fields::{field_of, WrongField};
 pub use places::{
     copy_day_at_headers, list_placed, read_placed, support_copy_placed, write_placed, WrongPlace,
 };
+pub use portions::{Portions, WrongPortions};
 pub use properties::{defaulted_timed, properties, send_timed, WrongKnown, WrongTime};
 pub use proposed::{is_support_copy, WrongYes};
 

@@ -37,9 +37,29 @@ pub(crate) fn headers(input: &[u8], security_first: bool, output: usize) -> Head
 }
 
 fn security_header(input: &[u8]) -> SecurityHeader<'_> {
-    let fixed = input.first_chunk::<SECURITY_FIXED>().unwrap_or(&[0; SECURITY_FIXED]);
-    let mut header = SecurityHeader {
-        input: input.len(),
+    let fixed = input.first_chunk().unwrap_or(&[0; SECURITY_FIXED]);
+    let mut header = security_fields(fixed, input.len());
+    let mut parts = Parts::default();
+    header.lay_out(&mut parts);
+    header.identity_bytes = parts.identity.if_there(input);
+    header.provider_info = parts.provider.if_there(input);
+    header
+}
+
+/// A MessagePropertiesHeader that begins at `at`.
+pub(crate) fn properties_header(input: &[u8], at: u64) -> PropertiesHeader<'_> {
+    let fixed = fixed_at(input, at).unwrap_or(&[0; PROPERTIES_FIXED]);
+    let mut header = properties_fields(fixed, at, input.len());
+    let mut parts = Parts::default();
+    header.lay_out(&mut parts);
+    header.label = parts.label.if_there(input);
+    header
+}
+
+/// The fields of a SecurityHeader in an input of so many bytes; its parts are not there yet.
+pub(crate) fn security_fields<'a>(fixed: &[u8; SECURITY_FIXED], input: usize) -> SecurityHeader<'a> {
+    SecurityHeader {
+        input,
         flags: SecurityFlags::new(u16_at(fixed, 0)),
         identity: u16_at(fixed, 2).into(),
         key: u16_at(fixed, 4).into(),
@@ -48,18 +68,18 @@ fn security_header(input: &[u8]) -> SecurityHeader<'_> {
         provider: u32_at(fixed, 12).into(),
         identity_bytes: &[],
         provider_info: &[],
-    };
-    let mut parts = Parts::default();
-    header.lay_out(&mut parts);
-    header.identity_bytes = parts.identity.if_there(input);
-    header.provider_info = parts.provider.if_there(input);
-    header
+    }
 }
 
-fn properties_header(input: &[u8], at: u64) -> PropertiesHeader<'_> {
-    let fixed = fixed_at(input, at).unwrap_or(&[0; PROPERTIES_FIXED]);
-    let mut header = PropertiesHeader {
-        input: input.len(),
+/// The fields of a MessagePropertiesHeader that begins at `at` in an input of so many bytes; its label is
+/// not there yet.
+pub(crate) fn properties_fields<'a>(
+    fixed: &[u8; PROPERTIES_FIXED],
+    at: u64,
+    input: usize,
+) -> PropertiesHeader<'a> {
+    PropertiesHeader {
+        input,
         at,
         label_bytes: 2 * u64::from(fixed[1]),
         class: u16_at(fixed, 2),
@@ -67,11 +87,7 @@ fn properties_header(input: &[u8], at: u64) -> PropertiesHeader<'_> {
         allocation: u32_at(fixed, 36).into(),
         extension: u32_at(fixed, 52).into(),
         label: &[],
-    };
-    let mut parts = Parts::default();
-    header.lay_out(&mut parts);
-    header.label = parts.label.if_there(input);
-    header
+    }
 }
 
 /// The fixed bytes of a MessagePropertiesHeader, where they are there.
@@ -80,21 +96,12 @@ fn fixed_at(input: &[u8], at: u64) -> Option<&[u8; PROPERTIES_FIXED]> {
 }
 
 /// The full reading of a section that passed its steps.
-fn section<'a>(input: &'a [u8], headers: &Headers<'a>) -> Section<'a> {
-    let parts = headers.parts();
-    let security = headers.security.as_ref().map(security_of);
+pub(crate) fn section<'a>(input: &'a [u8], headers: &Headers<'a>) -> Section<'a> {
     let fixed = fixed_at(input, headers.properties.at).expect("P1 passed");
-    let properties = Properties { label: headers.properties.label, ..properties_of(fixed) };
+    let summary = summary(headers, fixed);
+    let parts = summary.parts;
     Section {
-        summary: Summary {
-            security,
-            properties,
-            authentication_fails: authentication_fails(&security, &properties),
-            decryption_fails: decryption_fails(&security, &properties),
-            retired: retired(&security, &properties),
-            parts,
-            length: headers.properties.length() as usize,
-        },
+        summary,
         correlation_id: fixed[4..].first_chunk().expect("20 of the 56 bytes"),
         application_tag: u32_at(fixed, 28),
         identity: parts.identity.of(input),
@@ -106,10 +113,27 @@ fn section<'a>(input: &'a [u8], headers: &Headers<'a>) -> Section<'a> {
     }
 }
 
+/// The summary of a section that passed its steps, by its headers and the fixed bytes of the second one.
+#[inline(always)]
+pub(crate) fn summary<'a>(headers: &Headers<'a>, fixed: &[u8; PROPERTIES_FIXED]) -> Summary<'a> {
+    let security = headers.security.as_ref().map(security_of);
+    let properties = Properties { label: headers.properties.label, ..properties_of(fixed) };
+    Summary {
+        security,
+        properties,
+        authentication_fails: authentication_fails(&security, &properties),
+        decryption_fails: decryption_fails(&security, &properties),
+        retired: retired(&security, &properties),
+        parts: headers.parts(),
+        length: headers.properties.length() as usize,
+    }
+}
+
 /// The judged fields of a SecurityHeader. Its sizes were read from their 16 or 32 bits, so that the
 /// casts keep their values.
 fn security_of<'a>(header: &SecurityHeader<'a>) -> Security<'a> {
     let info = header.provider_info.split_first_chunk();
+    let sid = header.identity_bytes.first_chunk().filter(|_| header.flags.sender_kind() == 1);
     Security {
         flags: header.flags,
         identity_size: header.identity as u16,
@@ -117,6 +141,7 @@ fn security_of<'a>(header: &SecurityHeader<'a>) -> Security<'a> {
         signature_size: header.signature as u16,
         certificate_size: header.certificate as u32,
         provider_size: header.provider as u32,
+        sid: *sid.unwrap_or(&[0; 2]),
         provider_type: info.map(|(kind, _)| u32::from_le_bytes(*kind)),
         provider_name: info.map_or(&[], |(_, name)| name),
     }

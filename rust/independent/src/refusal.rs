@@ -45,6 +45,8 @@ pub mod number {
     pub const LABEL: u32 = 12;
     /// The output is short.
     pub const OUTPUT_SHORT: u32 = 13;
+    /// A portion, or a second finish, after the finish.
+    pub const AFTER_THE_FINISH: u32 = 14;
     /// A record of a day's file is bad or cut.
     pub const BAD_RECORD: u32 = 15;
     /// A day's file has more records than slots, or than 256.

@@ -109,6 +109,8 @@ pub struct Security<'a> {
     pub certificate_size: u32,
     /// ProviderInfoSize.
     pub provider_size: u32,
+    /// The first two identity bytes for ST 1, else 0.
+    pub sid: [u8; 2],
     /// The provider's type; none where there is no provider info.
     pub provider_type: Option<u32>,
     /// The provider's name: its units with their null, as bytes.
@@ -160,6 +162,14 @@ pub struct Summary<'a> {
     pub parts: Parts,
     /// The section's length in bytes, the padding at its end included.
     pub length: usize,
+}
+
+impl Summary<'_> {
+    /// The summary without the content of the provider name, as C-12 compares it.
+    pub fn without_provider_name(self) -> Self {
+        let security = self.security.map(|security| Security { provider_name: &[], ..security });
+        Self { security, ..self }
+    }
 }
 
 /// The full reading: the summary, and what is private but padding.

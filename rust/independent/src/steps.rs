@@ -54,7 +54,7 @@ const fn properties(
 /// Places in a SecurityHeader, which stands at 0: its start, and the first bytes of fields that fail.
 const START: u64 = 0;
 const FLAGS: u64 = 0;
-const SENDER_ID_SIZE: u64 = 2;
+pub(crate) const SENDER_ID_SIZE: u64 = 2;
 const SENDER_CERT_SIZE: u64 = 8;
 
 const S1: SectionStep = security("S1", number::INPUT_SHORT, |_| START, |h| h.input < SECURITY_FIXED);
@@ -130,6 +130,11 @@ pub(crate) const READING: [SectionStep; 19] =
 
 /// The steps of reading on how long the input is: where they pass, all that the sizes give is there.
 pub(crate) const LENGTHS: [SectionStep; 4] = [S1, S9, P1, P6];
+
+/// The steps of reading on a SecurityHeader before those on what its parts hold.
+pub(crate) const BEFORE_CONTENT: [SectionStep; 9] = [S1, S2, S3, S4, S5, S6, S7, S8, S9];
+/// The steps of reading on a MessagePropertiesHeader.
+pub(crate) const OF_PROPERTIES: [SectionStep; 7] = [P1, P2, P3, P4, P5, P6, P7];
 
 /// The steps of the section writer: "28, then the same steps without S1, S9, P1, P6, then 13". S5
 /// is not among them: no certificate that fails it passes 28.

@@ -1,5 +1,5 @@
 //! How often each refusal comes up in the generated cases, each level beside each algorithm, what is
-//! retired, and tables beside the records of a day's file.
+//! retired, tables beside the records of a day's file, and calls of a section that comes in portions.
 //! `--nocapture` prints the tables.
 
 use std::collections::{BTreeMap, BTreeSet};
@@ -7,6 +7,7 @@ use std::collections::{BTreeMap, BTreeSet};
 use independent::cause::{self, Cause};
 use independent::generate::{case, day, image, image_values, request, section_values, Random};
 use independent::generate::{day_table, place_case, place_values, properties_case, DayTable};
+use independent::generate::{portions_case, Call};
 use independent::listing::{ended_by, next_record, Next};
 use independent::neighbours::List;
 use independent::queue::{read_image, write_image};
@@ -242,6 +243,44 @@ fn day_tables() {
     each_at_least(&counts, 1..=12, 1_000, &[]);
 }
 
+/// Each refusal of a section comes up at the finish, and calls come behind the finish where it was accepted
+/// and where it was refused; the portions joined are the bytes.
+#[test]
+fn sections_in_portions() {
+    let (mut r, mut counts, mut behind) = (Random::new(13), Counts::new(), BTreeMap::new());
+    let mut lengths = BTreeMap::new();
+    for _ in 0..20_000 {
+        let case = portions_case(&mut r);
+        let (mut joined, mut number) = (Vec::new(), None);
+        for call in case.calls() {
+            match (call, number) {
+                (Call::Portion(bytes), None) => joined.extend_from_slice(bytes),
+                (Call::Finish, None) => {
+                    let answer = read(&joined, case.security_first);
+                    number = Some(answer.err().map_or(0, |refusal| refusal.number));
+                }
+                (call, Some(number)) => {
+                    let finish = call == Call::Finish;
+                    *behind.entry((finish, number == 0)).or_insert(0) += 1;
+                }
+            }
+        }
+        *counts.entry(number.expect("every case has a finish")).or_default() += 1;
+        let portions = case.calls.iter().filter_map(|call| match call {
+            Call::Portion(length) => Some(*length),
+            Call::Finish => None,
+        });
+        let portions: Vec<_> = portions.collect();
+        assert_eq!(portions.iter().sum::<usize>(), case.bytes.len());
+        *lengths.entry(portions.len().min(4)).or_insert(0) += 1;
+    }
+    println!("portions: {counts:?}, behind the finish: {behind:?}, how many: {lengths:?}");
+    assert!(counts[&0] > 4_000);
+    each_at_least(&counts, 1..=12, 100, &[]);
+    assert!(behind.len() == 4 && behind.values().all(|&calls| calls > 500), "{behind:?}");
+    assert!(lengths.len() == 5 && lengths.values().all(|&cases| cases > 100), "{lengths:?}");
+}
+
 #[test]
 fn the_same_seed_gives_the_same_cases() {
     let draw = || {
@@ -254,6 +293,7 @@ fn the_same_seed_gives_the_same_cases() {
             format!("{:?}", request(&mut r)),
             format!("{:?}", properties_case(&mut r)),
             format!("{:?}", day_table(&mut r)),
+            format!("{:?}", portions_case(&mut r)),
         ];
         (texts, image(&mut r), day(&mut r))
     };

@@ -5,6 +5,7 @@
 mod day;
 mod lists;
 mod places;
+mod portions;
 mod properties;
 mod queue;
 mod random;
@@ -15,6 +16,7 @@ mod values;
 pub use day::{day, day_table, long_day, DayTable};
 pub use lists::CLASSES;
 pub use places::{place_case, place_values};
+pub use portions::{portions_case, Call, PortionsCase};
 pub use properties::properties_case;
 pub use queue::{image, image_values, ImageValues, PAIRS};
 pub use random::Random;

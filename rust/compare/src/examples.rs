@@ -1,5 +1,7 @@
-//! 01's examples, C-14's, C-15's, C-17's, C-18's, C-21's and C-24's, held against each side. Where nothing else is
-//! said, their parts have content that passes S10, S11 and P7.
+//! 01's examples, C-12's, C-14's, C-15's, C-17's, C-18's, C-21's and C-24's, held against each side. Where nothing else
+//! is said, their parts have content that passes S10, S11 and P7.
+
+mod portions;
 
 use crate::days::{self, Day};
 use crate::lend::lend;
@@ -12,7 +14,7 @@ use crate::side::{
 type Example = (&'static str, fn(&dyn Side) -> Check);
 
 /// The examples, by their numbers.
-const EXAMPLES: [Example; 19] = [
+const EXAMPLES: [Example; 22] = [
     ("example 1", zero_bytes),
     ("example 2", parts_in_a_row),
     ("example 3", longest_label),
@@ -25,6 +27,9 @@ const EXAMPLES: [Example; 19] = [
     ("example 10", queue_pairs),
     ("example 11", titles),
     ("the listing's example", listing),
+    ("C-12's example of calls", portions::calls),
+    ("C-12's example of refusals", portions::refusals),
+    ("C-12's example of a summary", portions::summary),
     ("C-14's example", level_and_algorithm),
     ("C-15's example", day),
     ("C-17's example", places),

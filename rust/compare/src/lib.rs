@@ -2,10 +2,10 @@
 //! every input.
 //!
 //! [`side`] puts both behind one interface; [`sections`], [`section_properties`], [`writing`], [`places`], [`fields`],
-//! [`alike`], [`queues`], [`requests`], [`listing`], [`copies`] and [`days`] compare two sides on generated cases,
-//! [`classes`], [`pairs`], [`retired`], [`sweeps`] and [`examples`] on fixed ones; [`proposed`] makes the copies that
-//! both are asked about, and [`properties`] says what has to hold of one side alone. Each takes its sides as arguments,
-//! so that a test can put a wrong one there.
+//! [`alike`], [`queues`], [`requests`], [`listing`], [`copies`], [`days`] and [`portions`] compare two sides on
+//! generated cases, [`classes`], [`pairs`], [`retired`], [`sweeps`] and [`examples`] on fixed ones; [`proposed`] makes
+//! the copies that both are asked about, and [`properties`] says what has to hold of one side alone. Each takes its
+//! sides as arguments, so that a test can put a wrong one there.
 
 #![forbid(unsafe_code)]
 #![warn(missing_docs)]
@@ -17,11 +17,13 @@ pub mod copies;
 pub mod days;
 pub mod examples;
 pub mod fields;
+pub mod held;
 pub mod lend;
 pub mod library;
 pub mod listing;
 pub mod pairs;
 pub mod places;
+pub mod portions;
 pub mod properties;
 pub mod proposed;
 pub mod queues;

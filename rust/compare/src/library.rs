@@ -13,8 +13,9 @@ use std::thread;
 use independent::queue::Value;
 use ugbariteyo as library;
 
+use crate::held::Held;
 use crate::lend::lend_table;
-use crate::side::{Answer, FieldAt, Handling, Image, Line, Next, Part, Parts};
+use crate::side::{Answer, FieldAt, Handling, Image, Line, Next, Part, Parts, Portions};
 use crate::side::{Privacy, Properties, Reading, Record, Records, Refusal, Request, SectionValues};
 use crate::side::{Security, Sender, Sent, Side, Slot, Source, Summary};
 
@@ -52,6 +53,17 @@ impl Side for Library {
     }
     fn summarize<'a>(&self, input: &'a [u8], security_first: bool) -> Answer<Summary<'a>> {
         library::summarize(input, first(security_first)).map(summary).map_err(refusal)
+    }
+    fn summarize_nameless<'a>(&self, input: &'a [u8], security_first: bool) -> Answer<Summary<'a>> {
+        let found = library::summarize(input, first(security_first)).map_err(refusal)?;
+        Ok(summary(found.without_provider_name()))
+    }
+    fn portions(&self, security_first: bool) -> Box<dyn Portions> {
+        Box::new(Held {
+            state: library::Portions::new(first(security_first)),
+            portion: |state, bytes| state.portion(bytes).map_err(refusal),
+            finish: |state| state.finish().map(summary).map_err(refusal),
+        })
     }
     fn same_summary(&self, a: &[u8], b: &[u8], security_first: bool) -> bool {
         library::same_summary(a, b, first(security_first))

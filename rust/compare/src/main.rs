@@ -16,8 +16,8 @@ use compare::report::{Tally, HEADER};
 use compare::second::Independent;
 use compare::side::Sides;
 use compare::{
-    alike, classes, copies, days, examples, fields, listing, pairs, places, properties, queues, requests,
-    retired, section_properties, sections, sweeps, writing,
+    alike, classes, copies, days, examples, fields, listing, pairs, places, portions, properties, queues,
+    requests, retired, section_properties, sections, sweeps, writing,
 };
 use independent::generate::Random;
 
@@ -25,6 +25,8 @@ use independent::generate::Random;
 const SEED: u64 = 0x57_52;
 /// The refusals of a section that is read.
 const SECTION: [u32; 12] = [1, 2, 3, 4, 5, 6, 7, 8, 9, 10, 11, 12];
+/// The refusals of a section that comes in portions.
+const PORTIONS: [u32; 13] = [1, 2, 3, 4, 5, 6, 7, 8, 9, 10, 11, 12, 14];
 /// The refusals of a section that is written.
 const WRITER: [u32; 12] = [2, 3, 4, 6, 7, 8, 9, 10, 11, 12, 13, 28];
 /// Those of its S and P steps.
@@ -114,6 +116,7 @@ fn run(arguments: Arguments) -> io::Result<u64> {
     print(listing::run(sides, 100_000 * factor, &mut generator())?, &SECTION);
     print(copies::run(&copied, copies::faithful(), 50_000 * factor, &mut generator())?, &SECTION);
     print(days::run(sides, 20_000 * factor, &mut generator()), &[15, 16]);
+    run_portions(sides, factor, &mut generator()).into_iter().for_each(|(tally, met)| print(tally, met));
     println!("{cases} cases, {differences} differences");
     Ok(differences)
 }
@@ -126,5 +129,14 @@ fn run_places(sides: Sides<'_>, factor: u64, r: &mut Random) -> [(Tally, &'stati
         (places::run_units(sides), &[7, 12]),
         (fields::run(sides, 100_000 * factor, r), &SECTION),
         (alike::run(sides, 100_000 * factor, r), &SECTION),
+    ]
+}
+
+/// The kinds of C-12, and the refusals that each is to meet.
+fn run_portions(sides: Sides<'_>, factor: u64, r: &mut Random) -> [(Tally, &'static [u32]); 3] {
+    [
+        (portions::run(sides, 200_000 * factor, r), &PORTIONS),
+        (portions::cuts::run(sides), &[1, 6, 7, 10, 12]),
+        (portions::run_behind(sides), &[]),
     ]
 }

@@ -2,11 +2,14 @@
 
 use std::io;
 
-use independent::{day, field, listing, queue, request};
+use independent::{day, field, listing, portions, queue, request};
 
+use crate::held::Held;
 use crate::lend::lend_table;
-use crate::side::{part_of, Answer, FieldAt, Image, Line, Next, Properties, Reading, Record, Refusal};
-use crate::side::{Request, Section, SectionValues, Security, Sent, Side, Slot, Source, Summary};
+use crate::side::{part_of, Answer, FieldAt, Image, Line, Next, Portions, Properties, Reading};
+use crate::side::{
+    Record, Refusal, Request, Section, SectionValues, Security, Sent, Side, Slot, Source, Summary,
+};
 
 /// The independent reader and writer.
 pub struct Independent;
@@ -17,6 +20,17 @@ impl Side for Independent {
     }
     fn summarize<'a>(&self, input: &'a [u8], security_first: bool) -> Answer<Summary<'a>> {
         independent::read(input, security_first).map(|section| summary(&section))
+    }
+    fn summarize_nameless<'a>(&self, input: &'a [u8], security_first: bool) -> Answer<Summary<'a>> {
+        let section = independent::read(input, security_first)?;
+        Ok(summary_made(section.summary.without_provider_name()))
+    }
+    fn portions(&self, security_first: bool) -> Box<dyn Portions> {
+        Box::new(Held {
+            state: portions::Portions::new(security_first),
+            portion: portions::Portions::portion,
+            finish: |state| state.finish().map(summary_made),
+        })
     }
     fn same_summary(&self, a: &[u8], b: &[u8], security_first: bool) -> bool {
         independent::same_summary(a, b, security_first)
@@ -108,9 +122,15 @@ pub fn lend_answers(
 
 /// The summary in a reading by the independent library.
 pub fn summary<'a>(section: &Section<'a>) -> Summary<'a> {
-    let independent::Summary { properties, parts, length, .. } = section.summary;
+    summary_made(section.summary)
+}
+
+/// A summary by the independent library.
+pub fn summary_made(found: independent::Summary<'_>) -> Summary<'_> {
+    let independent::Summary { properties, parts, length, .. } = found;
+    let at = parts.label.start - independent::PROPERTIES_FIXED;
     Summary {
-        security: section.summary.security.map(|header| security(&header, section)),
+        security: found.security.map(|header| security(header, at)),
         flags: properties.flags,
         label_length: properties.label_length.into(),
         message_class: properties.class,
@@ -121,20 +141,17 @@ pub fn summary<'a>(section: &Section<'a>) -> Summary<'a> {
         hash_algorithm: properties.hash,
         encryption_algorithm: properties.encryption,
         extension_size: properties.extension_size.into(),
-        authentication_fails: section.summary.authentication_fails,
-        decryption_fails: section.summary.decryption_fails,
-        retired: section.summary.retired,
+        authentication_fails: found.authentication_fails,
+        decryption_fails: found.decryption_fails,
+        retired: found.retired,
         parts,
         length,
         label: properties.label,
     }
 }
 
-fn security<'a>(header: &independent::Security<'a>, section: &Section<'a>) -> Security<'a> {
-    let sid = match (header.flags.sender_kind(), section.identity) {
-        (1, &[revision, count, ..]) => [revision, count],
-        _ => [0, 0],
-    };
+/// A SecurityHeader of this length.
+fn security(header: independent::Security<'_>, length: usize) -> Security<'_> {
     Security {
         flags: header.flags.bits(),
         sizes: [
@@ -144,8 +161,8 @@ fn security<'a>(header: &independent::Security<'a>, section: &Section<'a>) -> Se
             header.certificate_size.into(),
             header.provider_size.into(),
         ],
-        sid,
-        length: section.summary.parts.label.start - independent::PROPERTIES_FIXED,
+        sid: header.sid,
+        length,
         provider_type: header.provider_type,
         provider_name: header.provider_name,
     }

@@ -4,6 +4,7 @@ use std::fmt::Debug;
 use std::io;
 
 pub use independent::field::FieldAt;
+pub use independent::generate::Call;
 pub use independent::listing::Line;
 pub use independent::properties::{Handling, Privacy, Sender};
 pub use independent::queue::Image;
@@ -69,6 +70,14 @@ pub struct Summary<'a> {
     pub length: usize,
     /// The label, its null included.
     pub label: &'a [u8],
+}
+
+impl Summary<'_> {
+    /// The summary without the content of the provider name.
+    pub fn without_provider_name(self) -> Self {
+        let security = self.security.map(|security| Security { provider_name: &[], ..security });
+        Self { security, ..self }
+    }
 }
 
 /// The full reading.
@@ -163,12 +172,33 @@ pub enum Slot {
     Spoilt,
 }
 
+/// A section that is being read in portions.
+pub trait Portions {
+    /// The next bytes.
+    fn portion(&mut self, bytes: &[u8]) -> Answer<()>;
+    /// The finish.
+    fn finish(&mut self) -> Answer<Summary<'_>>;
+    /// What a call is answered, but for the summary.
+    fn call(&mut self, call: Call<&[u8]>) -> Answer<()> {
+        match call {
+            Call::Portion(bytes) => self.portion(bytes),
+            Call::Finish => self.finish().map(|_| ()),
+        }
+    }
+    /// Whether a call leaves the state as it is; it is made on a copy.
+    fn stays(&self, call: Call<&[u8]>) -> bool;
+}
+
 /// A library: everything that it can be asked.
 pub trait Side {
     /// The full reading of a section.
     fn read<'a>(&self, input: &'a [u8], security_first: bool) -> Answer<Reading<'a>>;
     /// The summary of a section.
     fn summarize<'a>(&self, input: &'a [u8], security_first: bool) -> Answer<Summary<'a>>;
+    /// The summary of a section without the content of the provider name.
+    fn summarize_nameless<'a>(&self, input: &'a [u8], security_first: bool) -> Answer<Summary<'a>>;
+    /// The start of a section that comes in portions.
+    fn portions(&self, security_first: bool) -> Box<dyn Portions>;
     /// Whether both are accepted and their summaries are the same.
     fn same_summary(&self, a: &[u8], b: &[u8], security_first: bool) -> bool;
     /// The label for display.

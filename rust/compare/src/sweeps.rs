@@ -58,7 +58,7 @@ fn properties_length() -> usize {
 }
 
 /// A section with every part, signed and encrypted.
-fn whole_section() -> Vec<u8> {
+pub(crate) fn whole_section() -> Vec<u8> {
     written(&SectionValues {
         security_first: true,
         security_flags: 0x00A1,

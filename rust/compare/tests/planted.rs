@@ -2,24 +2,27 @@
 
 use std::io;
 
+use compare::held::Held;
 use compare::library::Library;
 use compare::report::Tally;
-use compare::second::{lend_answers, properties_made, reading, sent, summary, Independent};
-use compare::side::{Answer, FieldAt, Image, Line, Next, Properties, Reading, Record, Records, Refusal};
-use compare::side::{Request, SectionValues, Sent, Side, Sides, Slot, Source, Summary};
+use compare::second::{lend_answers, properties_made, reading, sent, summary, summary_made, Independent};
+use compare::side::{Answer, FieldAt, Image, Line, Next, Portions, Properties, Reading, Record, Records};
+use compare::side::{Refusal, Request, SectionValues, Sent, Side, Sides, Slot, Source, Summary};
 use compare::{
-    alike, classes, days, examples, fields, listing, pairs, places, properties, queues, requests, retired,
-    section_properties, sections, sweeps, writing,
+    alike, classes, days, examples, fields, listing, pairs, places, portions, properties, queues, requests,
+    retired, section_properties, sections, sweeps, writing,
 };
 use independent::generate::Random;
 use independent::neighbours::{List, Neighbours};
 use independent::planted::{self, Dependence, WrongDay, WrongField, WrongKnown, WrongPlace};
-use independent::planted::{WrongRetired, WrongStep, WrongTime, WrongVerdict, WrongYes};
+use independent::planted::{WrongPortions, WrongRetired, WrongStep, WrongTime, WrongVerdict, WrongYes};
 
 /// The generated cases of a kind.
 const CASES: u64 = 8_000;
 /// The generated day files and tables.
 const DAYS: u64 = 1_000;
+/// The generated sections in portions.
+const PORTIONS: u64 = 3_000;
 
 /// The one function that is wrong.
 #[derive(Debug, Clone, Copy, PartialEq)]
@@ -88,6 +91,10 @@ enum Fault {
     StopNumber,
     /// A day file is read otherwise into a table.
     Day(WrongDay),
+    /// A section is read otherwise in portions.
+    Portions(WrongPortions),
+    /// The summary that is said to be without the name has it.
+    Named,
     /// Every refusal changes a lent byte.
     Refusal,
     /// Two neighbouring steps of a list are exchanged.
@@ -149,6 +156,19 @@ impl Side for Planted {
             | Fault::Verdict(_)
             | Fault::Retired(_) => self.read(input, security_first).map(|reading| reading.summary),
             _ => Independent.summarize(input, security_first),
+        }
+    }
+    fn summarize_nameless<'a>(&self, input: &'a [u8], security_first: bool) -> Answer<Summary<'a>> {
+        let found = self.summarize(input, security_first)?;
+        Ok(if self.0 == Fault::Named { found } else { found.without_provider_name() })
+    }
+    fn portions(&self, security_first: bool) -> Box<dyn Portions> {
+        match self.0 {
+            Fault::Portions(wrong) => in_portions(wrong, security_first),
+            Fault::Exchanged(List::Reading, pair) => {
+                in_portions(WrongPortions::Exchanged(pair.at), security_first)
+            }
+            _ => Independent.portions(security_first),
         }
     }
     fn same_summary(&self, a: &[u8], b: &[u8], security_first: bool) -> bool {
@@ -294,6 +314,15 @@ impl Side for Planted {
     }
 }
 
+/// The start of a section that is read wrongly in portions.
+fn in_portions(wrong: WrongPortions, security_first: bool) -> Box<dyn Portions> {
+    Box::new(Held {
+        state: planted::Portions::new(wrong, security_first),
+        portion: planted::Portions::portion,
+        finish: |state| state.finish().map(summary_made),
+    })
+}
+
 /// The record with the fault in it.
 fn wrong_record(fault: Fault, record: Record<'_>) -> Record<'_> {
     match (fault, record.answer) {
@@ -317,6 +346,7 @@ fn finds(faults: &[Fault], run: impl Fn(Sides<'_>) -> Tally) {
     assert_eq!(faithful.differences(), 0, "{:#?}", faithful.first());
     for &fault in faults {
         let wrong = run(Sides { one: &library, other: &Planted(fault) });
+        println!("{fault:?}: {} of {}", wrong.differences(), wrong.cases());
         assert!(wrong.differences() > 0, "{fault:?} is not found: {wrong}");
         if let Fault::Exchanged(_, pair) = fault {
             assert_eq!(wrong.differences(), wrong.times_met(pair), "{pair} shows where both are broken");
@@ -500,6 +530,36 @@ fn days_read() {
     finds(&faults, |sides| days::run(sides, DAYS, &mut Random::new(19)));
 }
 
+#[test]
+fn sections_in_portions() {
+    let faults: Vec<_> =
+        WrongPortions::all().into_iter().map(Fault::Portions).chain([Fault::Named]).collect();
+    finds(&faults, |sides| portions::run(sides, PORTIONS, &mut Random::new(20)));
+    finds(&exchanges_read(), |sides| portions::run(sides, CASES, &mut Random::new(20)));
+    finds(&WrongPortions::LONG.map(Fault::Portions), portions::run_behind);
+}
+
+#[test]
+fn a_section_cut_anywhere() {
+    use WrongPortions::{
+        FixedApart, HalvesApart, LabelHalvesExchanged, Moved, NameInCutHeader, SidFromPortion, StartEarly,
+        TypeFromPortion, UnitFromPortion,
+    };
+    let gathered =
+        [HalvesApart, LabelHalvesExchanged, TypeFromPortion, SidFromPortion, FixedApart, StartEarly];
+    let judged =
+        [NameInCutHeader, UnitFromPortion, Moved("S11", "S10"), Moved("S10", "S9"), Moved("P7", "P6")];
+    let faults = [&gathered[..], &judged].concat();
+    finds(&faults.into_iter().map(Fault::Portions).collect::<Vec<_>>(), portions::cuts::run);
+}
+
+/// The exchanges of reading's steps but with 13, which only a copy has.
+fn exchanges_read() -> Vec<Fault> {
+    let mut faults = exchanges(List::Reading);
+    faults.retain(|fault| !matches!(fault, Fault::Exchanged(_, pair) if pair.names[1] == "13"));
+    faults
+}
+
 /// A kind of comparison.
 type Run = fn(Sides<'_>) -> Tally;
 
@@ -507,6 +567,7 @@ type Run = fn(Sides<'_>) -> Tally;
 fn tells(fault: Fault, run: Run) {
     assert_eq!(run(Sides { one: &Independent, other: &Independent }).differences(), 0);
     let wrong = run(Sides { one: &Planted(fault), other: &Planted(fault) });
+    println!("{fault:?} on both sides: {} of {}", wrong.differences(), wrong.cases());
     assert!(wrong.differences() > 0, "{fault:?} is not found: {wrong}");
 }
 
@@ -565,6 +626,18 @@ fn the_same_wrong_table_on_both_sides() {
     }
 }
 
+/// The same for portions: each side is held against its own reading in one go.
+#[test]
+fn the_same_wrong_portions_on_both_sides() {
+    for wrong in WrongPortions::all() {
+        tells(Fault::Portions(wrong), |sides| portions::run(sides, PORTIONS, &mut Random::new(9)));
+    }
+    for wrong in WrongPortions::LONG {
+        tells(Fault::Portions(wrong), portions::run_behind);
+    }
+    tells(Fault::Named, |sides| portions::run(sides, PORTIONS, &mut Random::new(9)));
+}
+
 /// The same for places and the fields that they lie in.
 #[test]
 fn the_same_wrong_place_on_both_sides() {
@@ -606,4 +679,21 @@ fn examples_of_the_paper() {
     let faults =
         [&[Read, WriteSection, old][..], &retired, &placed, &written, &proposed, &timed, &known, &days];
     finds(&faults.concat(), examples::run);
+}
+
+/// The settled readings of C-12 tell these.
+#[test]
+fn examples_of_portions() {
+    use WrongPortions::{
+        CountIn, EarlyRefusal, EmptyAfter, EmptyRefused, FinishedCounted, HalvesApart, LabelShort, Moved,
+        NameInCutHeader, NameKept, NothingRefused, Placed, RefusedOpen, Retired, SecondFinish,
+        TypeFromPortion, TypeLost, UnitFromPortion, Verdict,
+    };
+    let calls = [EmptyAfter, EmptyRefused, FinishedCounted, NothingRefused, RefusedOpen, SecondFinish];
+    let gathered = [CountIn(16), HalvesApart, LabelShort, TypeFromPortion];
+    let judged = [EarlyRefusal, NameInCutHeader, UnitFromPortion, Placed(WrongPlace::UnitAfter)];
+    let moved = [Moved("S11", "S10"), Moved("S10", "S9"), Moved("P7", "P6"), Moved("P7", "P4")];
+    let told = [NameKept, Retired, TypeLost, Verdict];
+    let faults = [&calls[..], &gathered, &judged, &moved, &told].concat();
+    finds(&faults.into_iter().map(Fault::Portions).collect::<Vec<_>>(), examples::run);
 }

@@ -4,13 +4,14 @@ use std::env;
 use std::path::{Path, PathBuf};
 use std::process::{exit, Command};
 
-const SOURCES: [&str; 9] = [
+const SOURCES: [&str; 10] = [
     "tuned/read.c",
     "tuned/copy.c",
     "tuned/check.c",
     "tuned/write.c",
     "tuned/image.c",
     "tuned/day.c",
+    "tuned/portions.c",
     "c/agree.c",
     "c/loops.c",
     "c/samples.c",

@@ -1,6 +1,7 @@
 #include <string.h>
 
 #include "lent.h"
+#include "portions.h"
 #include "tuned.h"
 
 /* Answers are compared member by member: the bytes between members hold anything. */
@@ -31,6 +32,11 @@ static bool same_summary(const ugb_summary *a, const ugb_summary *b)
     return SAME(security_first) && same_security(&a->security, &b->security) &&
            same_properties(&a->properties, &b->properties) && SAME_BYTES(parts) && SAME(authentication_fails) &&
            SAME(decryption_fails) && SAME(retired);
+}
+
+static bool same_summarized(const ugb_summarized *a, const ugb_summarized *b)
+{
+    return same_refusal(&a->refusal, &b->refusal) && same_summary(&a->summary, &b->summary);
 }
 
 static bool same_reading(const ugb_reading *a, const ugb_reading *b)
@@ -121,4 +127,42 @@ bool days_agree(const day *l, ugb_day_slot *tuned_table)
     for (size_t slot = 0; slot < l->slots; slot++)
         same = same && same_slot(&l->table[slot], &tuned_table[slot]);
     return same;
+}
+
+static bool portion_gives(ugb_refusal expected, ugb_portions *state, tuned_portions *tuned_state, ugb_bytes portion)
+{
+    ugb_refusal library = ugb_portion(state, UGB_BYTES(portion));
+    ugb_refusal tuned = tuned_portion(tuned_state, UGB_BYTES(portion));
+    return same_refusal(&library, &expected) && same_refusal(&tuned, &expected);
+}
+
+static bool finish_gives(const ugb_summarized *expected, ugb_portions *state, tuned_portions *tuned_state)
+{
+    ugb_summarized library = ugb_finish(state), tuned;
+    tuned_finish(&tuned, tuned_state);
+    return same_summarized(&library, expected) && same_summarized(&tuned, expected);
+}
+
+static bool label_is_held(const ugb_summary *whole, const uint8_t *s, const ugb_portions *state,
+                          const tuned_portions *tuned_state)
+{
+    ugb_bytes label = ugb_bytes_of(whole->parts.label, s), held = ugb_label_held(state, whole);
+    const uint8_t *tuned = tuned_state->properties + PROPERTIES_FIXED;
+    return held.length == label.length && (label.length == 0 || (memcmp(held.bytes, label.bytes, label.length) == 0 &&
+                                                                 memcmp(tuned, label.bytes, label.length) == 0));
+}
+
+bool portions_agree(const portioned *l, const section *whole)
+{
+    const ugb_summarized after = {.refusal.number = UGB_AFTER_THE_FINISH};
+    ugb_summarized in_one_go = ugb_summarize(UGB_BYTES(whole->s), whole->security_first);
+    ugb_portions state = ugb_start(l->security_first);
+    tuned_portions tuned;
+    tuned_start(&tuned, l->security_first);
+    for (size_t i = 0; i < l->count; i++)
+        if (!portion_gives((ugb_refusal){UGB_ACCEPTED, 0}, &state, &tuned, l->portions[i]))
+            return false;
+    return finish_gives(&in_one_go, &state, &tuned) &&
+           label_is_held(&in_one_go.summary, whole->s.bytes, &state, &tuned) &&
+           portion_gives(after.refusal, &state, &tuned, whole->s) && finish_gives(&after, &state, &tuned);
 }

@@ -41,11 +41,16 @@ static input inputs[] = {
     {.name = "full security, 250-unit label", .given = &secured_sample, .out_length = ROOM},
     {.name = "no security, 4 KB body", .given = &long_sample, .out_length = ROOM},
 };
-enum { INPUTS = sizeof inputs / sizeof *inputs, SECURED = 1 };
+enum { INPUTS = sizeof inputs / sizeof *inputs, SECURED = 1, LONG = 2 };
 
 /* A day's file of each section, every record the same, and the table that it is read into. */
 static uint8_t days[INPUTS][UGB_DAY_MOST * (HEAD + ROOM)];
 static ugb_day_slot table[UGB_DAY_MOST];
+
+/* A section of which so many bytes came, and how many come next. The longest label would end before INSIDE_BODY. */
+static ugb_portions state;
+static size_t came;
+enum { PORTION = 64, INSIDE_BODY = 1024 };
 
 /* ---- The calls */
 
@@ -76,6 +81,9 @@ CALL(call_next_record, ugb_next_record(DAY, RECORD))
 CALL(call_read_day, ugb_read_day(DAY, DAY_LENGTH, table, UGB_DAY_MOST))
 CALL(call_read_long_day, ugb_read_day(DAY, DAY_LENGTH, table, UGB_DAY_MOST - 1))
 CALL(call_read_cut_day, ugb_read_day(DAY, DAY_LENGTH - 1, table, UGB_DAY_MOST))
+CALL(call_start, ugb_start(FIRST))
+CALL(call_portion, ugb_portion(&state, i->s + came, PORTION))
+CALL(call_finish, ugb_finish(&state))
 CALL(call_send, send_sample(OUT))
 CALL(call_defaulted, defaulted_sample())
 CALL(call_read_image, ugb_read_image(image_sample.bytes, image_sample.length))
@@ -101,6 +109,30 @@ static void count_sections(const char *what, call *call)
 {
     for (int i = 0; i < INPUTS; i++)
         count(what, inputs[i].name, call, &inputs[i]);
+}
+
+/* A call on a section of which so many bytes came. */
+static void count_behind(size_t bytes, const char *what, const char *of, call *call, input *i)
+{
+    came = bytes;
+    state = ugb_start(FIRST);
+    ugb_portion(&state, i->s, came);
+    count(what, of, call, i);
+}
+
+/* What comes is counted, judged, held, and counted again. */
+static void count_portions(void)
+{
+    input *secured = &inputs[SECURED];
+    ugb_summary x = ugb_summarize(secured->s, secured->s_length, true).summary;
+    size_t certificate = x.security.parts.sender_cert.start, name = x.security.parts.provider_info.start + 4;
+    count("portions", "start", call_start, secured);
+    count_behind(certificate, "portions", "64 bytes of the certificate", call_portion, secured);
+    count_behind(name, "portions", "64 bytes of the provider name", call_portion, secured);
+    count_behind(x.parts.label.start, "portions", "64 bytes of the label", call_portion, secured);
+    count_behind(INSIDE_BODY, "portions", "64 bytes of the body", call_portion, &inputs[LONG]);
+    for (input *i = inputs; i < inputs + INPUTS; i++)
+        count_behind(i->s_length, "portions, finish", i->name, call_finish, i);
 }
 
 /* A byte of the secured section is made wrong and right again. */
@@ -139,6 +171,7 @@ int main(void)
     count_sections("write", call_write);
     count_sections("next record", call_next_record);
     count_sections("read day, 256 records", call_read_day);
+    count_portions();
     count("send", "signed, 40-unit title", call_send, secured);
     count("defaulted", "signed, 40-unit title", call_defaulted, secured);
     count("queue image read", "direct name", call_read_image, secured);

@@ -1,4 +1,5 @@
 #include "lent.h"
+#include "portions.h"
 #include "samples.h"
 #include "tuned.h"
 
@@ -65,3 +66,28 @@ static inline ugb_bytes label_shown(const section *l)
 }
 
 LOOP(label_shown, section, ugb_bytes answer = label_shown(l), )
+
+/* A section from its start to its finish. */
+static inline ugb_summarized in_portions(const portioned *l)
+{
+    ugb_portions state = ugb_start(l->security_first);
+    for (size_t i = 0; i < l->count; i++) {
+        ugb_refusal refusal = ugb_portion(&state, UGB_BYTES(l->portions[i]));
+        looked_at(&refusal);
+    }
+    return ugb_finish(&state);
+}
+
+static inline void tuned_in_portions(ugb_summarized *answer, const portioned *l)
+{
+    tuned_portions state;
+    tuned_start(&state, l->security_first);
+    for (size_t i = 0; i < l->count; i++) {
+        ugb_refusal refusal = tuned_portion(&state, UGB_BYTES(l->portions[i]));
+        looked_at(&refusal);
+    }
+    tuned_finish(answer, &state);
+}
+
+ANSWERED(portions, portioned, ugb_summarized, in_portions(l))
+LOOP(tuned_portions, portioned, ugb_summarized answer; tuned_in_portions(&answer, l), looked_at(&answer.refusal))

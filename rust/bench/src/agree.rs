@@ -1,13 +1,15 @@
 //! What has to hold before anything is timed: each tuned call answers as the library's, the request that C sends is the
-//! one that Rust sends, and a day's file is read alike by all.
+//! one that Rust sends, and a day's file and a section in portions are read alike by all.
 
 use compare::days;
 use compare::library::{section_values, Library};
 use compare::second::Independent;
+use compare::side::Side;
 use independent::queue::HEAD;
 use ugbariteyo::{is_support_copy, read_day, support_copy_vec, DaySlot, First, DAY_MOST};
 
 use crate::c;
+use crate::portions::SHORT;
 use crate::refusals::Refused;
 use crate::samples::{image, record, RequestSample, Sample};
 
@@ -109,4 +111,38 @@ fn same_day(file: &[u8], slots: usize) {
     let from_c = table.clone();
     assert_eq!(read_day(file, &mut table).ok(), library.answer.ok(), "a day of {} bytes", file.len());
     assert_eq!(table, from_c, "from C: a day of {} bytes", file.len());
+}
+
+/// Panics where the library from Rust and from C, the independent one and the tuned calls do not read a section in
+/// portions as the library does in one go: each sample in one and in short portions, short of a byte too, and every
+/// refused section, byte by byte too.
+pub fn check_portions(samples: &[Sample]) {
+    for sample in samples {
+        let section = sample.section();
+        for size in [usize::MAX, SHORT] {
+            same_portions(&section, sample.first(), size);
+            same_portions(&section[..section.len() - 1], sample.first(), size);
+        }
+    }
+    for refused in Refused::all() {
+        for size in [usize::MAX, SHORT, 1] {
+            same_portions(&refused.section, refused.first, size);
+        }
+    }
+}
+
+/// All sides give for portions of so many bytes what the library gives for the whole.
+fn same_portions(section: &[u8], first: First, size: usize) {
+    let library = Library::new(None);
+    let security_first = first == First::SecurityHeader;
+    let whole = library.summarize_nameless(section, security_first);
+    for (side, name) in [(&library as &dyn Side, "library"), (&Independent, "independent")] {
+        let mut state = side.portions(security_first);
+        let taken = section.chunks(size).try_for_each(|bytes| state.portion(bytes));
+        let answer = taken.and_then(|()| state.finish());
+        assert_eq!(answer, whole, "{name}: {} bytes in portions of {size}", section.len());
+    }
+    let portions: Vec<_> = section.chunks(size).map(c::Bytes::from).collect();
+    let agrees = c::Portioned::new(&portions, first).agrees(&c::Section::new(section, first));
+    assert!(agrees, "from C or tuned: {} bytes in portions of {size}", section.len());
 }

@@ -108,6 +108,22 @@ impl<'a> Day<'a> {
     }
 }
 
+/// The portions in which a section comes.
+#[repr(C)]
+pub struct Portioned<'a> {
+    portions: *const Bytes<'a>,
+    count: usize,
+    first: First,
+    lent: PhantomData<&'a [Bytes<'a>]>,
+}
+
+impl<'a> Portioned<'a> {
+    /// These portions of a section.
+    pub fn new(portions: &'a [Bytes<'a>], first: First) -> Self {
+        Self { portions: portions.as_ptr(), count: portions.len(), first, lent: PhantomData }
+    }
+}
+
 /// What a call takes that makes its own request.
 #[repr(C)]
 pub struct Nothing(u8);
@@ -145,6 +161,7 @@ loops! {
     read_image(Bytes<'_>) = loop_read_image;
     write_image(GivenImage<'_>) = loop_write_image;
     read_day(Day<'_>) = loop_read_day;
+    portions(Portioned<'_>) = loop_portions;
     tuned_read(Section<'_>) = loop_tuned_read;
     tuned_support_copy(Section<'_>) = loop_tuned_support_copy;
     tuned_is_support_copy(Copied<'_>) = loop_tuned_is_support_copy;
@@ -152,6 +169,7 @@ loops! {
     tuned_read_image(Bytes<'_>) = loop_tuned_read_image;
     tuned_write_image(GivenImage<'_>) = loop_tuned_write_image;
     tuned_read_day(Day<'_>) = loop_tuned_read_day;
+    tuned_portions(Portioned<'_>) = loop_tuned_portions;
 }
 
 extern "C" {
@@ -162,6 +180,7 @@ extern "C" {
     fn image_reads_agree(image: &Bytes<'_>) -> bool;
     fn image_writings_agree(given: &GivenImage<'_>, out: *mut u8, tuned_out: *mut u8, length: usize) -> bool;
     fn days_agree(day: &Day<'_>, tuned_table: *mut DaySlot) -> bool;
+    fn portions_agree(portions: &Portioned<'_>, whole: &Section<'_>) -> bool;
 }
 
 impl Section<'_> {
@@ -216,12 +235,20 @@ impl Day<'_> {
     }
 }
 
+impl Portioned<'_> {
+    /// Whether the library and the tuned calls answer as the library does to `whole`, the portions joined.
+    pub fn agrees(&self, whole: &Section<'_>) -> bool {
+        // SAFETY: as for the loops.
+        unsafe { portions_agree(self, whole) }
+    }
+}
+
 #[cfg(test)]
 mod tests {
-    use super::{Bytes, Copied, Day, Given, GivenImage, Section};
+    use super::{Bytes, Copied, Day, Given, GivenImage, Portioned, Section};
     use compare::library::{first, section_values};
     use independent::generate::{case, day_table, image, image_values, section_values as generated_values};
-    use independent::generate::{DayTable, Random};
+    use independent::generate::{portions_case, Call, DayTable, Random};
     use independent::queue::HEAD;
     use ugbariteyo::{support_copy_vec, DaySlot};
 
@@ -308,6 +335,25 @@ mod tests {
             let DayTable { file, slots } = day_table(&mut r);
             let mut table = vec![DaySlot::default(); slots];
             assert!(Day::new(&file, &mut table).agrees(), "{slots} slots, {file:02X?}");
+        }
+    }
+
+    #[test]
+    fn tuned_portions_agree() {
+        let mut r = Random::new(7);
+        for _ in 0..CASES {
+            let case = portions_case(&mut r);
+            let portions: Vec<_> = case
+                .calls()
+                .map_while(|call| match call {
+                    Call::Portion(bytes) => Some(Bytes::from(bytes)),
+                    Call::Finish => None,
+                })
+                .collect();
+            let joined = &case.bytes[..portions.iter().map(|portion| portion.length).sum()];
+            let first = first(case.security_first);
+            let agrees = Portioned::new(&portions, first).agrees(&Section::new(joined, first));
+            assert!(agrees, "{first:?}, {:?}, {joined:02X?}", case.calls);
         }
     }
 

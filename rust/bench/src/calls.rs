@@ -4,7 +4,7 @@ use std::hint::black_box;
 
 use compare::library::{request as library_request, section_values};
 use ugbariteyo as library;
-use ugbariteyo::{DaySlot, DAY_MOST};
+use ugbariteyo::{DaySlot, First, Refusal, DAY_MOST};
 
 use crate::c;
 use crate::output::Output;
@@ -26,18 +26,28 @@ pub fn read(sample: &Sample) -> Row {
     Row::timed(format!("read, {}", sample.name), section.len(), calls)
 }
 
-/// The summary of a section; of a summary in Rust, class, label and length are taken.
+/// The summary of a section.
 pub fn summarize(sample: &Sample) -> Row {
     let (section, first) = (sample.section(), sample.first());
     let lent = c::Section::new(&section, first);
-    let values = |summary: library::Summary<'_>| {
-        (summary.message_class, summary.label.bytes().len(), summary.section_length)
-    };
     let calls = vec![
-        (Library, taken(|| library::summarize(&section, first).map(values))),
+        (Library, taken(|| summary_in_one_go(&section, first))),
         (FromC, from_c(|times| c::summarize(&lent, &mut [], times))),
     ];
     Row::timed(format!("summarize, {}", sample.name), section.len(), calls)
+}
+
+/// What is taken of a summary in Rust: class, label and length.
+pub type Values = (u16, usize, usize);
+
+/// They, of the library's summary.
+pub fn values(summary: library::Summary<'_>) -> Values {
+    (summary.message_class, summary.label.bytes().len(), summary.section_length)
+}
+
+/// They, of the library's summary of a section that lies together: one function, so that every row has the same code.
+pub fn summary_in_one_go(section: &[u8], first: First) -> Result<Values, Refusal> {
+    library::summarize(section, first).map(values)
 }
 
 /// The same summary of a section and of another that agrees with it.
@@ -208,7 +218,8 @@ fn filled<'a, S, E>(table: &'a mut [S], call: impl Fn(&mut [S]) -> Result<usize,
     })
 }
 
-fn from_c<'a>(calls: impl FnMut(u64) + 'a) -> Repeated<'a> {
+/// Calls made from C, to be repeated.
+pub fn from_c<'a>(calls: impl FnMut(u64) + 'a) -> Repeated<'a> {
     Box::new(calls)
 }
 

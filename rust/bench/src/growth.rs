@@ -1,19 +1,18 @@
 //! How cost grows: with each part of a section, and from step to step where a section is refused.
 
-use std::hint::black_box;
-
 use compare::library::section_values;
 use ugbariteyo as library;
 
 use crate::calls::STAND_IN;
 use crate::output::Output;
+use crate::portions::in_portions;
 use crate::refusals::Refused;
 use crate::samples::Sample;
 use crate::timing::{best, taken, Time};
 
 const GROWN: &str = "\
-| what grows | bytes | read ns | label shown ns | support copy ns | write ns | memcpy ns | memset ns |
-|---|--:|--:|--:|--:|--:|--:|--:|";
+| what grows | bytes | read ns | one portion ns | label shown ns | support copy ns | write ns | memcpy ns | memset ns |
+|---|--:|--:|--:|--:|--:|--:|--:|--:|";
 const REFUSED: &str = "\
 | refused at | read ns | of an accepted one | refused / accepted | support copy ns | of an accepted one | refused / accepted |
 |---|--:|--:|--:|--:|--:|--:|";
@@ -33,6 +32,7 @@ fn grown(sample: &Sample) -> String {
     let out = Output::new(section.len());
     let times = best(vec![
         taken(|| library::read(&section, first)),
+        taken(|| in_portions(&[&section], first)),
         taken(|| library::label_shown(&section, first, STAND_IN)),
         out.written(|out| library::support_copy(&section, first, out)),
         out.written(|out| library::write_section(&values, out)),
@@ -47,11 +47,7 @@ fn beside_accepted(refused: &Refused) -> String {
     let out = Output::new(refused.accepted.len());
     let calls = [&refused.section, &refused.accepted].map(|section| {
         let read = taken(|| library::read(section, refused.first));
-        let copy = out.lent(|out, times| {
-            for _ in 0..times {
-                let _ = black_box(library::support_copy(section, refused.first, out));
-            }
-        });
+        let copy = out.taken(|out| library::support_copy(section, refused.first, out));
         [read, copy]
     });
     let times = best(calls.into_iter().flatten().collect());

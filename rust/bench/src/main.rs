@@ -10,6 +10,7 @@ mod calls;
 mod growth;
 mod listing;
 mod output;
+mod portions;
 mod refusals;
 mod samples;
 mod table;
@@ -53,6 +54,7 @@ fn bench(date: Option<&str>) -> io::Result<()> {
     let short = &samples[..3];
     agree::check(&samples);
     agree::check_days(short);
+    agree::check_portions(&samples);
     print_circumstances(date);
     println!("{}", table::HEADER);
     short.iter().for_each(|sample| println!("{}", calls::read(sample)));
@@ -68,6 +70,8 @@ fn bench(date: Option<&str>) -> io::Result<()> {
     println!("{}", calls::write_image());
     short.iter().for_each(|sample| println!("{}", calls::next_record(sample)));
     short.iter().for_each(|sample| println!("{}", calls::read_day(sample)));
+    samples.iter().for_each(|sample| println!("{}", portions::one(sample)));
+    short.iter().for_each(|sample| println!("{}", portions::short(sample)));
     println!("{}", listing::row(program)?);
     Ok(())
 }
@@ -75,6 +79,7 @@ fn bench(date: Option<&str>) -> io::Result<()> {
 fn grow(date: Option<&str>) -> io::Result<()> {
     let samples = Sample::growing();
     agree::check(&samples);
+    agree::check_portions(&samples);
     print_circumstances(date);
     growth::print(&samples);
     Ok(())

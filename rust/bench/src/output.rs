@@ -33,6 +33,15 @@ impl Output {
         })
     }
 
+    /// A call whose answer is put into memory, to be repeated.
+    pub fn taken<'a, T>(&'a self, call: impl Fn(&mut [u8]) -> T + 'a) -> Repeated<'a> {
+        self.lent(move |out, times| {
+            for _ in 0..times {
+                black_box(&call(out));
+            }
+        })
+    }
+
     /// A call that must not be refused, to be repeated.
     pub fn written<'a, T, E>(&'a self, call: impl Fn(&mut [u8]) -> Result<T, E> + 'a) -> Repeated<'a> {
         self.lent(move |out, times| {

@@ -15,6 +15,27 @@ pub enum Column {
     Memset,
     /// Of what only compares, in memcpy's place.
     Memcmp,
+    /// Of what comes in portions, the same bytes read in one go: as they lie, in memcpy's place, and joined by memcpy
+    /// first, in memset's.
+    InOneGo,
+    Joined,
+}
+
+impl Column {
+    /// Its place in a row, and what stands beside its time.
+    fn place(self) -> (usize, &'static str) {
+        match self {
+            Self::Library => (0, ""),
+            Self::FromC => (1, ""),
+            Self::PlainRust => (2, ""),
+            Self::TunedC => (3, ""),
+            Self::Memcpy => (4, ""),
+            Self::Memset => (5, ""),
+            Self::Memcmp => (4, " (memcmp)"),
+            Self::InOneGo => (4, " (in one go)"),
+            Self::Joined => (5, " (joined)"),
+        }
+    }
 }
 
 /// The table's first two lines.
@@ -27,14 +48,17 @@ pub struct Row {
     what: String,
     /// The bytes that are read or written.
     bytes: usize,
-    times: [Option<f64>; 7],
+    times: [Option<(f64, &'static str)>; 6],
 }
 
 impl Row {
     /// The row of these times.
     pub fn new(what: String, bytes: usize, times: impl IntoIterator<Item = (Column, f64)>) -> Self {
-        let mut row = Self { what, bytes, times: [None; 7] };
-        times.into_iter().for_each(|(column, time)| row.times[column as usize] = Some(time));
+        let mut row = Self { what, bytes, times: [None; 6] };
+        for (column, time) in times {
+            let (place, mark) = column.place();
+            row.times[place] = Some((time, mark));
+        }
         row
     }
 
@@ -47,14 +71,12 @@ impl Row {
 
 impl fmt::Display for Row {
     fn fmt(&self, f: &mut fmt::Formatter<'_>) -> fmt::Result {
-        let [library, from_c, rust, tuned, memcpy, memset, memcmp] = self.times;
-        let mark = memcmp.map_or("", |_| " (memcmp)");
+        let [library, from_c, held_against @ ..] = self.times;
         write!(f, "| {} | {} |", self.what, self.bytes)?;
-        [library, from_c].into_iter().try_for_each(|time| cell(f, time.map(Time)))?;
-        let held_against = [(rust, ""), (tuned, ""), (memcpy.or(memcmp), mark), (memset, "")];
-        held_against.into_iter().try_for_each(|(time, mark)| {
-            cell(f, time.map(|time| format!("{}{mark}", Time(time))))?;
-            cell(f, library.zip(time).map(|(library, time)| format!("{:.2}", library / time)))
+        [library, from_c].into_iter().try_for_each(|time| cell(f, time.map(|(time, _)| Time(time))))?;
+        held_against.into_iter().try_for_each(|time| {
+            cell(f, time.map(|(time, mark)| format!("{}{mark}", Time(time))))?;
+            cell(f, library.zip(time).map(|((library, _), (time, _))| format!("{:.2}", library / time)))
         })
     }
 }

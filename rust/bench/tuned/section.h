@@ -4,7 +4,8 @@
 
 #include "place.h"
 
-static inline uint32_t judge_security(const uint8_t *s, size_t s_length, security *x)
+/* S1 to S9, which look at the fixed bytes only. */
+static inline uint32_t judge_security_fixed(const uint8_t *s, size_t s_length, security *x)
 {
     uint32_t number;
     if (s_length < SECURITY_FIXED)
@@ -18,14 +19,17 @@ static inline uint32_t judge_security(const uint8_t *s, size_t s_length, securit
     number = security_steps(x);
     if (number != UGB_ACCEPTED)
         return number;
-    if (x->at[SECURITY_PARTS] > s_length)
-        return UGB_INPUT_SHORT;
-    return security_content(x, s + SECURITY_FIXED, s + x->at[PROVIDER]);
+    return x->at[SECURITY_PARTS] > s_length ? UGB_INPUT_SHORT : UGB_ACCEPTED;
 }
 
-static inline uint32_t judge_properties(const uint8_t *s, size_t s_length, properties *x)
+static inline uint32_t judge_security(const uint8_t *s, size_t s_length, security *x)
 {
-    const uint8_t *header = s + x->at;
+    uint32_t number = judge_security_fixed(s, s_length, x);
+    return number != UGB_ACCEPTED ? number : security_content(x, s + SECURITY_FIXED, s + x->at[PROVIDER]);
+}
+
+static inline uint32_t judge_properties(const uint8_t *header, size_t s_length, properties *x)
+{
     uint32_t number;
     if (s_length - x->at < PROPERTIES_FIXED)
         return UGB_INPUT_SHORT;
@@ -42,24 +46,28 @@ static inline uint32_t judge_properties(const uint8_t *s, size_t s_length, prope
     return label_content(x, header + PROPERTIES_FIXED);
 }
 
+static inline ugb_refusal properties_refusal(const uint8_t *header, size_t s_length, properties *x)
+{
+    uint32_t number = judge_properties(header, s_length, x);
+    if (number != UGB_ACCEPTED)
+        return (ugb_refusal){number, properties_place(number, x, header + PROPERTIES_FIXED)};
+    return (ugb_refusal){UGB_ACCEPTED, 0};
+}
+
 /* The refusal, or both headers as the steps leave them; without security the first has no flag and no signature. */
 static inline ugb_refusal judge(const uint8_t *s, size_t s_length, bool security_first, security *first,
                                 properties *second)
 {
-    uint32_t number;
     first->flags = 0;
     first->size[SIGNATURE] = 0;
     second->at = 0;
     if (security_first) {
-        number = judge_security(s, s_length, first);
+        uint32_t number = judge_security(s, s_length, first);
         if (number != UGB_ACCEPTED)
             return (ugb_refusal){number, security_place(number, first, s, NULL)};
         second->at = first->at[SECURITY_PARTS];
     }
-    number = judge_properties(s, s_length, second);
-    if (number != UGB_ACCEPTED)
-        return (ugb_refusal){number, properties_place(number, second, s + second->at + PROPERTIES_FIXED)};
-    return (ugb_refusal){UGB_ACCEPTED, 0};
+    return properties_refusal(s + second->at, s_length, second);
 }
 
 #endif

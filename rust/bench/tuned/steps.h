@@ -133,10 +133,16 @@ static inline bool is_text(const uint8_t *text, size_t length)
     return _mm_movemask_epi8(found) == 0;
 }
 
+/* S10. */
+static inline bool identity_fits(const security *x, const uint8_t *identity)
+{
+    return sender_kind(x) != 1 || (identity[0] == 1 && identity[1] == (x->size[IDENTITY] - 8) / 4);
+}
+
 /* S10 and S11. */
 static inline uint32_t security_content(const security *x, const uint8_t *identity, const uint8_t *provider)
 {
-    if (sender_kind(x) == 1 && (identity[0] != 1 || identity[1] != (x->size[IDENTITY] - 8) / 4))
+    if (!identity_fits(x, identity))
         return UGB_IDENTITY;
     if (x->size[PROVIDER] != 0 && !is_text(provider + 4, x->size[PROVIDER] - 4))
         return UGB_PROVIDER;

@@ -1,6 +1,6 @@
-/* The limit that the benchmark holds the library against: reading, support copy, its check and writing of sections,
- * reading and writing of images, reading of a day's file, in C tuned by hand for x86-64, with the answers of
- * ugbariteyo.h for every input. */
+/* The limit that the benchmark holds the library against: reading, whole and in portions (portions.h), support copy,
+ * its check and writing of sections, reading and writing of images, reading of a day's file, in C tuned by hand for
+ * x86-64, with the answers of ugbariteyo.h for every input. */
 #ifndef TUNED_H
 #define TUNED_H
 

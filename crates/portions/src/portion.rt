@@ -104,12 +104,8 @@ pub fn portion(
     }
     show(head, Bytes(0), received, bytes);
     let places = places_after(progress, head);
-    show(
-        provider_type,
-        less(places.name_at, Bytes(4)),
-        received,
-        bytes,
-    );
+    let type_at = less(places.name_at, Bytes(4));
+    show(provider_type, type_at, received, bytes);
     show(properties, places.properties_at, received, bytes);
     let name = with_bytes(progress.name, name_then(places, received, bytes));
     PortionAnswer::Taken(Progress {

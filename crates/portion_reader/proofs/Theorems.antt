@@ -104,7 +104,8 @@ unfolding stateAnswer stateOf noName
 start-kept first =
     let q = placesOf first (window 18 [] 0) in
     progress-kept (stateOf first [] .progress)
-    (named-fits noName (nameIn q []) (part-octets (q .«name_size» .0) (q .«name_at» .0) [] (λ i. omega arith)) (record { units = omega arith; low = omega arith }))
+    (named-fits noName (nameIn q []) (part-octets (q .«name_size» .0) (q .«name_at» .0) [] (λ i. omega arith))
+    (record { units = omega arith; low = omega arith }))
 
 pub counters-kept : CountersKept
 counters-kept = record { start = start-kept; portion = portion-kept; finish = finish-kept }

@@ -33,7 +33,8 @@ answerCounters c (Portion·Refused r) = c
 -- the counters c of the state x after a portion t; where it is only counted, no other number is touched
 unfoldable pub portionCounters : List ℕ → State → List ℕ → List ℕ
 portionCounters c x t =
-    cond (not (x .progress .finished) && onlyCounted (x .progress) (length t)) (set c 2 (min reach (x .progress .received .0 + length t))) (answerCounters c (portionAnswer x t))
+    cond (not (x .progress .finished) && onlyCounted (x .progress) (length t)) (set c 2 (min reach (x .progress .received .0 + length t)))
+    (answerCounters c (portionAnswer x t))
 
 unfoldable pub summarizedAnswer : Summarized → UgbSummarized
 summarizedAnswer (Accepted m) = record { refusal = noRefusal; summary = m }

@@ -82,7 +82,9 @@ module _ {s t : List ℕ} (o : BothOctets s t) (size : length t ≡ length s) wh
     number-same =
         let f = securityFields s in
         let parts = securityParts f in
-        ap (λ (g : SecurityFields). readSecurity (length t) g (partOf t (securityParts g .«sender_id»)) (providerText (partOf t (securityParts g .«provider_info»))))
+        ap
+        (λ (g : SecurityFields).
+        readSecurity (length t) g (partOf t (securityParts g .«sender_id»)) (providerText (partOf t (securityParts g .«provider_info»))))
         (sym (e .fields))
         ∙ ap (λ (n : ℕ). readSecurity n f (partOf t (parts .«sender_id»)) (providerText (partOf t (parts .«provider_info»)))) size
         ∙ sym (read-head (length s) f (partOf s (parts .«sender_id»)) (partOf t (parts .«sender_id»)) _ (head-same f parts e))

@@ -31,7 +31,7 @@ cond-cong : (b : Bool) {x y : ℕ} → (b ≡ true → x ≡ y) → cond b x 0 �
 cond-cong true h = h refl
 cond-cong false h = refl
 
-or-cong : (b : Bool) {x y : Bool} → (b ≡ true → x ≡ y) → (not b || x) ≡ (not b || y)
+pub or-cong : (b : Bool) {x y : Bool} → (b ≡ true → x ≡ y) → (not b || x) ≡ (not b || y)
 or-cong true h = h refl
 or-cong false h = refl
 

@@ -130,7 +130,10 @@ pub name-end : (first : Bool) (u : List ℕ) (m : Summary) → HeaderPassed firs
     → m .security .parts .«provider_info» .start .0 + m .security .parts .«provider_info» .length .0 ≤ propertiesAt m
 unfolding noSecurity
 name-end true u m a = laid _ _ (a .parts) .provider
-name-end false u m a = omega (arith, ap (λ (h : SecurityHeader). h .parts .«provider_info» .start .0) a, ap (λ (h : SecurityHeader). h .parts .«provider_info» .length .0) a)
+name-end false u m a =
+    let start = ap (λ (h : SecurityHeader). h .parts .«provider_info» .start .0) a in
+    let size = ap (λ (h : SecurityHeader). h .parts .«provider_info» .length .0) a in
+    omega arith
 
 pub renamed : (first : Bool) (u v : List ℕ) (m : Summary) → SectionPassed first u m → Renamed m u v
     → (first ≡ true → providerText (partOf v (m .security .parts .«provider_info»)) ≡ true)

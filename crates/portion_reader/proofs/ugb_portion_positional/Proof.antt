@@ -1,6 +1,7 @@
 -- Only counted, or the answer picks the case; the state's bytes are as the portion left them.
-use Prim.Native.Nat.{_+_, min}
+use Prim.Native.Nat.{ℕ, _+_, min}
 use denote.Ref.{now}
+use mathlib.Core.List.{List}
 use mathlib.Core.Bool.{Bool, not, _&&_, and-eq-true-iff}
 use mathlib.Core.Path.{_≡_, sym, ap, _∙_}
 use lib.ListN.{length, set}
@@ -69,6 +70,15 @@ answer c =
     c .portion .ensures .0
     ∙ ap (λ (p : Progress). portionAnswer (state (looked c) p) (now (entry (looked c) .args .bytes))) (told (looked c))
 
+-- the windows, of the progress that was read from the counters
+written : {p q : Progress} → p ≡ q → (f : Progress → State) {head type properties : List ℕ}
+    → head ≡ f p .head → type ≡ f p .«provider_type» → properties ≡ f p .properties
+    → (head ≡ f q .head) × ((type ≡ f q .«provider_type») × (properties ≡ f q .properties))
+written e f h t b = (
+  h ∙ ap (λ (x : Progress). f x .head) e,
+  (t ∙ ap (λ (x : Progress). f x .«provider_type») e, b ∙ ap (λ (x : Progress). f x .properties) e),
+)
+
 returns-2 : tie.Need-returns-2
 unfolding entry state looked portionRefusal portionCounters answerCounters
 returns-2 c =
@@ -81,13 +91,7 @@ returns-2 c =
       c .no-refusal2 .ensures ∙ ap portionRefusal after,
       (
         passed _ _ _ _ (sym e) (the tie.After-counters-of (search) .counters-of .ensures ∙ ap (answerCounters (now (a .counters))) after),
-        (
-          fed .0 ∙ ap (λ (p : Progress). portionState (state l p) t .head) (told l),
-          (
-            fed .1 .0 ∙ ap (λ (p : Progress). portionState (state l p) t .«provider_type») (told l),
-            fed .1 .1 ∙ ap (λ (p : Progress). portionState (state l p) t .properties) (told l),
-          ),
-        ),
+        written (told l) (λ p. portionState (state l p) t) (fed .0) (fed .1 .0) (fed .1 .1),
       ),
     )
 
@@ -103,13 +107,7 @@ returns-3 c =
       ap portionRefusal refused,
       (
         passed _ _ _ _ (sym e) (ap (answerCounters (now (a .counters))) refused),
-        (
-          fed .0 ∙ ap (λ (p : Progress). portionState (state l p) t .head) (told l),
-          (
-            fed .1 .0 ∙ ap (λ (p : Progress). portionState (state l p) t .«provider_type») (told l),
-            fed .1 .1 ∙ ap (λ (p : Progress). portionState (state l p) t .properties) (told l),
-          ),
-        ),
+        written (told l) (λ p. portionState (state l p) t) (fed .0) (fed .1 .0) (fed .1 .1),
       ),
     )
 

@@ -19,6 +19,7 @@ use Rattle.rules.specs.Security.{ST, certAt, identityHead, keyAt, providerAt, p
 use Rattle.rules.specs.declared.security.SecurityFields.{SecurityFields}
 use Rattle.rules.proofs.Laws.Accepted.{SecurityFits, identity-le, security-fits}
 use Rattle.rules.proofs.Laws.AmendedPlaces.{provider-even}
+use Rattle.secrecy.proofs.ReadAlike.{or-cong}
 use Rattle.portions.specs.Name.{nameBreakOf, nameText, named, noName}
 use Rattle.portions.specs.State.{nameIn, placesIn, placesOf}
 use Rattle.portions.specs.Window.{window}
@@ -27,11 +28,6 @@ use Rattle.portions.proofs.Laws.Lists.{drop-take}
 use Rattle.portions.proofs.Laws.Name.{judged}
 use Rattle.portions.proofs.Laws.Places.{security-held}
 use Rattle.portions.proofs.Laws.Window.{getD-window}
-
--- what is looked at only where a test says so need be equal only there
-or-late : (b : Bool) {x y : Bool} → (b ≡ true → x ≡ y) → (not b || x) ≡ (not b || y)
-or-late true h = h refl
-or-late false h = refl
 
 -- no unit, no break
 no-break : breakAt (drop 4 []) ≡ 0
@@ -63,7 +59,7 @@ module _ (s : List ℕ) where
     -- S10 sees the two bytes that are held
     pub identity-held : identityHead f (take 2 (drop 16 (window 18 s 0))) ≡ identityHead f (identityAt s)
     unfolding identityHead securityParts
-    identity-held = or-late (eqb (ST f) 1) λ one.
+    identity-held = or-cong (eqb (ST f) 1) λ one.
         let eight = identity-le (ST f) (f .«sender_id_size» .0) (fits .identity) one in
         let byte : (i : ℕ) → i < 2 → getD (take 2 (drop 16 (window 18 s 0))) i 0 ≡ getD (identityAt s) i 0 = λ i l.
         getD-take 2 (drop 16 (window 18 s 0)) i 0 l

@@ -178,7 +178,13 @@ module _ (first : Bool) (s t : List ℕ) where
         ∙ ap
         (λ (q : Places).
         stateWith
-        (record { «security_first» = first; finished = false; received = bytes (min reach (length (s ++ t))); places = q; name = named noName (nameIn q (s ++ t)) })
+        (record {
+          «security_first» = first;
+          finished = false;
+          received = bytes (min reach (length (s ++ t)));
+          places = q;
+          name = named noName (nameIn q (s ++ t));
+        })
         (window 18 (s ++ t) 0) (window 4 (s ++ t) (q .«name_at» .0 - 4)) (window 556 (s ++ t) (q .«properties_at» .0)))
         stay
       where
@@ -244,7 +250,8 @@ module _ (first : Bool) (s t : List ℕ) where
   fed-state = go (onlyCounted (stateOf first s .progress) (length t)) refl
     where
       go : (b : Bool) → onlyCounted (stateOf first s .progress) (length t) ≡ b
-          → cond b (stateWith (counted (stateOf first s .progress) (length t)) (stateOf first s .head) (stateOf first s .«provider_type») (stateOf first s .properties))
+          → let x = stateOf first s in
+          cond b (stateWith (counted (x .progress) (length t)) (x .head) (x .«provider_type») (x .properties))
           (gathered (stateOf first s) t)
           ≡ stateOf first (s ++ t)
       go true e = counted-state e

@@ -20,7 +20,8 @@ returns c =
     let here =
     c .security-number .ensures
     ∙ ap₂ (readSecurity n (a .f)) identity (the tie.After-name-text (search) .name-text .ensures)
-    ∙ ap (λ (f : SecurityFields). readSecurity n f (take 2 (drop 16 (now (a .head)))) (nameText (f .«provider_info_size» .0) (a .progress .name))) (the tie.Start (search) .pre) in
+    ∙ ap (λ (f : SecurityFields). readSecurity n f (take 2 (drop 16 (now (a .head)))) (nameText (f .«provider_info_size» .0) (a .progress .name)))
+    (the tie.Start (search) .pre) in
     answers _ _ _ _ (sym (the tie.Then1 (search) .if1 .taken)) here
 
 returns-2 : tie.Need-returns-2

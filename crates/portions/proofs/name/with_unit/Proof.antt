@@ -1,6 +1,5 @@
 -- A unit counts, or it does not.
-use mathlib.Core.Bool.{Bool, true, false, _||_, true≢false}
-use mathlib.Core.Path.{_≡_}
+use mathlib.Core.Bool.{_||_}
 use native.Mathlib.Numerals.{add-one}
 use native.Mathlib.Omega.{arith}
 use borrow.Author.Needs.{needs}
@@ -8,13 +7,10 @@ use borrow.Author.Tests.{leb-false}
 use lib.Dec.{eqb, leb}
 use Rattle.octets.proofs.Laws.Steps.{the}
 use Rattle.rules.specs.Refusal.{limit}
+use Rattle.rules.proofs.Laws.Accepted.{neither}
 use Rattle.portions.specs.Name.{withUnit}
 use Rattle.portions.proofs.name.with_unit.Statement.{statement}
 use Rattle.portions.proofs.name.with_unit.Tie as tie
-
-or-false : (x y : Bool) → (x || y) ≡ false → y ≡ false
-or-false true y e = absurd (true≢false e)
-or-false false y e = e
 
 returns : tie.Need-returns
 unfolding withUnit
@@ -24,7 +20,7 @@ returns c = rw (the tie.Then1 (search) .if1 .taken)
 add : tie.Need-add-t15
 add c =
     let a = the tie.Start (search) .args in
-    let few = or-false (a .name .ended || eqb (a .unit) 0) (leb limit (a .name .units .0)) (the tie.Else1 (search) .if1 .left) in
+    let few = neither (a .name .ended || eqb (a .unit) 0) (leb limit (a .name .units .0)) (the tie.Else1 (search) .if1 .left) .1 in
     omega (arith, leb-false limit (a .name .units .0) few)
 
 returns-2 : tie.Need-returns-2

@@ -1,9 +1,10 @@
 // Text of 16-bit units, of which the last and no other is zero.
 use crate::count::Bytes;
+use crate::count::smaller;
 use crate::number::u16_at;
 use crate::number::u16_of;
 ghost use mathlib.Core.Path.{_≡_};
-ghost use Prim.Native.Nat.{_/_, _%_, _≤_};
+ghost use Prim.Native.Nat.{_*_, _/_, _%_, _≤_};
 ghost use lib.Dec.{ltb};
 ghost use lib.ListN.{length};
 ghost use Rattle.octets.specs.Text.{breakAt, firstZero, isText, units};
@@ -61,15 +62,30 @@ pub fn is_text(s: &[u8]) -> bool
     !has_zero_in(s, last)
 }
 
-// Where the first unit that breaks this rule begins. Asked only of what is no text, so that the loop may end early.
-pub fn first_break(s: &[u8]) -> Bytes
-    ensures { λ r. ⌜ r .0 ≡ breakAt (now (s .entry)) ⌝ }
+// As many whole blocks from the first on as hold no zero unit, in bytes.
+fn blocks_without_zero(s: &[u8]) -> Bytes
+    ensures { λ r. ⌜ r .0 ≡ 32 * (firstZero (units (now (s .entry))) / 16) ⌝ }
+{
+    let mut i = 0;
+    while BLOCK <= s.len() - i {
+        if has_zero(&s[i..], Bytes(BLOCK)) {
+            return Bytes(i);
+        }
+        i += BLOCK;
+    }
+    Bytes(i)
+}
+
+// How many bytes stand before the first zero unit: all whole units where none is zero. By whole blocks up to the one that
+// holds it, and in that one, or in what no longer fills a block, unit by unit.
+pub fn before_zero(s: &[u8]) -> Bytes
+    ensures { λ r. ⌜ r .0 ≡ 2 * firstZero (units (now (s .entry))) ⌝ }
     ensures { λ r. ⌜ r .0 ≤ length (now (s .entry)) ⌝ }
 {
     let n = s.len() / 2;
-    let mut i = 0;
+    let mut i = blocks_without_zero(s).0 / 2;
     let unit = loop {
-        if n <= i + 1 {
+        if n <= i {
             break i;
         }
         if u16_of(s[2 * i], s[2 * i + 1]) == 0 {
@@ -78,4 +94,17 @@ pub fn first_break(s: &[u8]) -> Bytes
         i += 1;
     };
     Bytes(2 * unit)
+}
+
+// Where the first unit that breaks the rule of a text begins: the first zero unit, or the last unit where none stands
+// before it. Asked only of what is no text.
+pub fn first_break(s: &[u8]) -> Bytes
+    ensures { λ r. ⌜ r .0 ≡ breakAt (now (s .entry)) ⌝ }
+    ensures { λ r. ⌜ r .0 ≤ length (now (s .entry)) ⌝ }
+{
+    let n = s.len() / 2;
+    if n == 0 {
+        return Bytes(0);
+    }
+    smaller(before_zero(s), Bytes(2 * (n - 1)))
 }

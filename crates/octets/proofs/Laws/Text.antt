@@ -1,5 +1,5 @@
 -- Text of 16-bit units: their bytes, and the rule by the first zero unit.
-use Prim.Native.Nat.{ℕ, zero, suc, _+_, _*_, _/_, _≤_, _<_, min}
+use Prim.Native.Nat.{ℕ, zero, suc, _+_, _*_, _-_, _/_, _%_, _≤_, _<_, min}
 use mathlib.Core.Path.{_≡_, refl, sym, ap, _∙_}
 use mathlib.Core.List.{List, [], _∷_}
 use mathlib.Core.Bool.{Bool, true, false, _||_, true≢false}
@@ -7,11 +7,12 @@ use native.Mathlib.Nat.{zero-add, suc-add, mul-suc}
 use native.Mathlib.Numerals.{add-one, add-two}
 use native.Mathlib.Omega.{arith}
 use borrow.Author.Tests.{eq-eqb, le-ltb, lt-ltb, ltb-false, ltb-true, ne-eqb}
-use lib.ListN.{length, getD, drop}
+use lib.ListN.{length, getD, take, drop}
 use lib.Seq.{drop-nil}
 use lib.Dec.{eqb, ltb, eqb·suc-zero, eqb·suc-suc, leb·suc-zero, leb·suc-suc}
 use Rattle.octets.specs.Number.{le}
 use Rattle.octets.specs.Text.{FirstBreak, breaks, firstBreak, firstZero, lastOnly, units}
+use Rattle.octets.proofs.Laws.Part.{rest-drop}
 
 pub length-units : (s : List ℕ) → length (units s) ≡ length s / 2
 unfolding units
@@ -55,6 +56,13 @@ firstZero-le (zero ∷ us) i h e = omega arith
 firstZero-le (suc u ∷ us) zero h e = omega arith
 firstZero-le (suc u ∷ us) (suc i) h e = simp eqb·suc-zero (omega (arith, firstZero-le us i (omega arith) e))
 
+-- at most all units stand before it
+pub firstZero-most : (us : List ℕ) → firstZero us ≤ length us
+unfolding firstZero
+firstZero-most [] = omega arith
+firstZero-most (zero ∷ us) = omega arith
+firstZero-most (suc u ∷ us) = simp eqb·suc-zero (omega (arith, firstZero-most us))
+
 -- the last and no other unit is zero exactly where all the others stand before the first zero unit
 pub lastOnly-firstZero : (us : List ℕ) → lastOnly us ≡ eqb (suc (firstZero us)) (length us)
 unfolding lastOnly firstZero
@@ -82,6 +90,14 @@ firstZero-drop us zero n h = rw (zero-add n)
 firstZero-drop [] (suc i) n h = absurd (omega arith)
 firstZero-drop (zero ∷ us) (suc i) n h = absurd (omega arith)
 firstZero-drop (suc u ∷ us) (suc i) n h = simp (eqb·suc-zero, suc-add, leb·suc-suc) (firstZero-drop us i n (omega (arith, simp eqb·suc-zero at h)))
+
+-- the same in bytes: a part from a whole unit on, as the code lends it
+pub firstZero-part : (s : List ℕ) (at n : ℕ) → at % 2 ≡ 0 → at / 2 ≤ firstZero (units s)
+    → ltb (firstZero (units (take (length s - at) (drop at s)))) n ≡ ltb (firstZero (units s)) (at / 2 + n)
+firstZero-part s at n even h =
+    let from : at ≡ 2 * (at / 2) = omega arith in
+    let part = ap units (rest-drop s at ∙ ap (λ (k : ℕ). drop k s) from) ∙ units-drop s (at / 2) in
+    ap (λ (us : List ℕ). ltb (firstZero us) n) part ∙ firstZero-drop (units s) (at / 2) n h
 
 -- where the rule is broken, by the first zero unit, or by the last one where no unit is zero
 module _ (us : List ℕ) (some : 0 < length us) (no : lastOnly us ≡ false) where

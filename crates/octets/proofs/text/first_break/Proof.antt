@@ -1,71 +1,26 @@
--- The loop's invariant: no unit before `i` is zero, and `i` is no further than the last one.
-use Prim.Native.Nat.{ℕ, suc, _*_, _-_, _/_, _≤_, _<_}
+-- The smaller of two units begins at the smaller of their offsets; where there is no unit, that is 0.
 use denote.Ref.{now}
-use mathlib.Core.Path.{_≡_, sym, ap, _∙_}
-use mathlib.Core.List.{List}
-use mathlib.Core.Logic.{⊎-elim}
 use native.Mathlib.Omega.{arith}
-use borrow.Author.Tests.{le-ltb, ltb-false, ne-eqb}
-use lib.ListN.{length, getD}
-use Rattle.octets.specs.Text.{breakAt, firstBreak, firstZero, units}
+use borrow.Author.Needs.{needs}
+use Rattle.octets.specs.Text.{breakAt, firstBreak}
 use Rattle.octets.proofs.Laws.Steps.{the}
-use Rattle.octets.proofs.Laws.Text.{firstZero-le, firstZero-suc, length-units, unit-of}
+use Rattle.octets.proofs.Laws.Text.{length-units}
 use Rattle.octets.proofs.text.first_break.Statement.{statement}
 use Rattle.octets.proofs.text.first_break.Tie as tie
 
-abbrev Inv-loop : tie.InvT-loop
-Inv-loop s n i₀ i = (i ≤ n - 1) × (i ≤ firstZero (units s))
+returns : tie.Need-returns
+unfolding breakAt firstBreak
+returns c =
+    let n = length-units (now (the tie.Start (search) .args .s)) in
+    (omega arith, omega arith)
 
-abbrev μ-loop : tie.MeasureT-loop
-μ-loop s n i₀ i = n - i
-
--- behind a unit that is not zero
-passed : (us : List ℕ) (i : ℕ) → i < length us → i ≤ firstZero us → (getD us i 0 ≡ 0 → ⊥) → suc i ≤ firstZero us
-passed us i h l some =
-    ltb-false (firstZero us) (suc i) (sym (firstZero-suc us i h) ∙ rw (le-ltb (firstZero us) i l, ne-eqb (getD us i 0) 0 some))
-
-loop-again : tie.Need-loop-again Inv-loop μ-loop
-loop-again c =
-    let s = now (the (tie.Start Inv-loop μ-loop) (search) .args .s) in
-    let l = the (tie.At-loop Inv-loop μ-loop) (search) .loop in
-    let n : length (units s) ≡ length s / 2 = length-units s in
-    let some : getD (units s) (l .i) 0 ≡ 0 → ⊥ =
-    λ e. c .if2 .left (the (tie.After-u16-of Inv-loop μ-loop) (search) .u16-of .ensures ∙ sym (unit-of s (l .i) (omega arith)) ∙ e) in
-    (omega arith, omega (arith, passed (units s) (l .i) (omega arith) (l .inv .1) some))
-
--- either test ends the loop at that unit
-at-unit : (c : tie.After-row-known Inv-loop μ-loop)
-    → let s = now (the (tie.Start Inv-loop μ-loop) (search) .args .s) in
-    (c .before .if1 .unit ≡ firstBreak (units s)) × (c .before .if1 .unit ≤ length s / 2)
-unfolding firstBreak
-at-unit c =
-    let s = now (the (tie.Start Inv-loop μ-loop) (search) .args .s) in
-    let l = the (tie.At-loop Inv-loop μ-loop) (search) .loop in
-    let n : length (units s) ≡ length s / 2 = length-units s in
-    ⊎-elim
-    (λ w. (omega arith, omega arith))
-    (λ w.
-    let zero : getD (units s) (l .i) 0 ≡ 0 = unit-of s (l .i) (omega arith) ∙ sym (w .3 .ensures) ∙ w .4 .taken in
-    (omega (arith, firstZero-le (units s) (l .i) (omega arith) zero), omega arith))
-    (c .before .if1 .came)
+returns-2 : tie.Need-returns-2
+unfolding breakAt firstBreak
+returns-2 c =
+    let n = length-units (now (the tie.Start (search) .args .s)) in
+    (omega arith, omega arith)
 
 pub first-break-spec : {M : Type 1} → statement M
-unfolding breakAt
 first-break-spec =
     tie.close
-    (tie.spec
-    Inv-loop
-    μ-loop
-    (λ c. (omega arith, omega arith))
-    (λ c. omega arith)
-    (λ c. omega arith)
-    (λ c. omega arith)
-    (λ c. omega arith)
-    (λ c. omega arith)
-    (λ c. omega arith)
-    (λ c κs. search)
-    (λ c. omega arith)
-    (λ c. omega arith)
-    loop-again
-    (λ c. omega (arith, at-unit c .1))
-    (λ c. (ap (_*_ 2) (at-unit c .0), omega (arith, at-unit c .1))))
+    (tie.spec returns (λ c κs. search needs) (λ c. search needs) (λ c. search needs) (λ c κs. search needs) returns-2)

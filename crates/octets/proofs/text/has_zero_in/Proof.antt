@@ -1,17 +1,14 @@
 -- A zero unit before the end stands in the whole blocks, or in the last block, which begins among them.
-use Prim.Native.Nat.{ℕ, _+_, _*_, _-_, _/_, _≤_, _<_}
+use Prim.Native.Nat.{_+_, _*_, _-_, _/_, _≤_, _<_}
 use denote.Ref.{now}
 use mathlib.Core.Path.{_≡_, sym, ap, _∙_}
-use mathlib.Core.List.{List}
 use native.Mathlib.Omega.{arith}
 use borrow.Author.Needs.{needs}
 use borrow.Author.Tests.{lt-ltb, ltb-false, ltb-true}
 use lib.Dec.{ltb}
-use lib.ListN.{drop}
 use Rattle.octets.specs.Text.{firstZero, units}
-use Rattle.octets.proofs.Laws.Part.{rest-drop}
 use Rattle.octets.proofs.Laws.Steps.{the}
-use Rattle.octets.proofs.Laws.Text.{firstZero-drop, units-drop}
+use Rattle.octets.proofs.Laws.Text.{firstZero-part}
 use Rattle.octets.proofs.text.has_zero_in.Statement.{statement}
 use Rattle.octets.proofs.text.has_zero_in.Tie as tie
 
@@ -31,16 +28,10 @@ returns-3 c =
     let a = the tie.Start (search) .args in
     let n = a .end .0 in
     let us = units (now (a .s)) in
-    let i = (n - 32) / 2 in
     let none = sym (the tie.After-has-zero2 (search) .has-zero2 .ensures) ∙ the tie.Else2 (search) .if2 .left in
     let whole : n / 32 * 32 / 2 ≤ firstZero us = ltb-false (firstZero us) (n / 32 * 32 / 2) none in
-    let from : n - 32 ≡ 2 * i = omega arith in
-    let last = ap units (rest-drop (now (a .s)) (n - 32) ∙ ap (λ (k : ℕ). drop k (now (a .s))) from) ∙ units-drop (now (a .s)) i in
-    let end : i + 16 ≡ n / 2 = omega arith in
-    c .has-zero3 .ensures
-    ∙ ap (λ (vs : List ℕ). ltb (firstZero vs) 16) last
-    ∙ firstZero-drop us i 16 (omega arith)
-    ∙ ap (ltb (firstZero us)) end
+    let end : (n - 32) / 2 + 16 ≡ n / 2 = omega arith in
+    c .has-zero3 .ensures ∙ firstZero-part (now (a .s)) (n - 32) 16 (omega arith) (omega arith) ∙ ap (ltb (firstZero us)) end
 
 pub has-zero-in-spec : {M : Type 1} → statement M
 has-zero-in-spec =

@@ -16,11 +16,12 @@ ghost use mathlib.Core.Path.{_≡_};
 ghost use mathlib.Core.List.{[]};
 ghost use Prim.Native.Nat.{_+_, _^_, _≤_, _<_};
 ghost use lib.ListN.{drop, length};
-ghost use Rattle.rules.specs.Properties.{propertiesFields, propertiesParts};
+ghost use Rattle.rules.specs.Properties.{propertiesFields, propertiesLength, propertiesParts, propertiesSteps};
 ghost use Rattle.rules.specs.Reading.{propertiesNumber};
 ghost use Rattle.rules.specs.Refusal.{limit};
 ghost use Rattle.rules.specs.Summary.{partOf};
 ghost use Rattle.reading.specs.Fields.{PropertiesSizes, propertiesRead};
+ghost use Rattle.reading.specs.Sizes.{sizesNumber};
 
 fn no_fields() -> PropertiesFields
     ensures { λ r. ⌜ r ≡ propertiesFields [] ⌝ }
@@ -103,12 +104,38 @@ pub(crate) fn properties_parts(f: PropertiesFields, at: Bytes) -> PropertiesPart
     }
 }
 
+// Where the section ends, its header at `at`; also above the limit.
+pub(crate) fn end_of(f: PropertiesFields, at: Bytes) -> Bytes
+    requires { ⌜ PropertiesSizes f ⌝ }
+    requires { ⌜ at .0 < 2 ^ 40 ⌝ }
+    ensures { λ r. ⌜ r .0 ≡ at .0 + propertiesLength f ⌝ }
+{
+    properties_parts(f, at).section_length
+}
+
 // The label of the header at `at`; none where it is not all there.
 pub(crate) fn label_at(s: &[u8], f: PropertiesFields, at: Bytes) -> &[u8]
     requires { ⌜ at .0 ≤ limit ⌝ }
     ensures { λ r. ⌜ now r ≡ partOf (now (s .entry)) (propertiesParts (at .0) f .label) ⌝ }
 {
     within(s, Bytes(at.0 + 56), f.label_length.bytes())
+}
+
+// P2 to P6, of a section that ends at `end`, in n bytes
+pub(crate) fn sizes_number(n: Bytes, f: PropertiesFields, end: Bytes) -> u32
+    ensures { λ r. ⌜ r ≡ sizesNumber (propertiesSteps f) (n .0) (end .0) ⌝ }
+{
+    let number = properties_steps(f);
+    if number != refusal::PASSED {
+        return number;
+    }
+    if LIMIT < end.0 {
+        return refusal::ABOVE_THE_LIMIT;
+    }
+    if n.0 < end.0 {
+        return refusal::INPUT_SHORT;
+    }
+    refusal::PASSED
 }
 
 // P1 to P7
@@ -120,16 +147,9 @@ pub(crate) fn properties_number(s: &[u8], at: Bytes) -> u32
         return refusal::INPUT_SHORT;
     }
     let fields = fields_at(s, at);
-    let number = properties_steps(fields);
+    let number = sizes_number(Bytes(s.len()), fields, end_of(fields, at));
     if number != refusal::PASSED {
         return number;
-    }
-    let end = properties_parts(fields, at).section_length.0;
-    if LIMIT < end {
-        return refusal::ABOVE_THE_LIMIT;
-    }
-    if s.len() < end {
-        return refusal::INPUT_SHORT;
     }
     label_contents(label_at(s, fields, at))
 }

@@ -22,9 +22,10 @@ ghost use lib.Dec.{eqb};
 ghost use Rattle.octets.specs.Number.{le};
 ghost use Rattle.octets.specs.Padding.{padded};
 ghost use Rattle.rules.specs.Reading.{headerAt, judge, securityNumber, startAt};
-ghost use Rattle.rules.specs.Security.{providerText, securityContents, securityFields, securityLength, securityParts};
+ghost use Rattle.rules.specs.Security.{providerText, securityContents, securityFields, securityLength, securityParts, securitySteps};
 ghost use Rattle.rules.specs.Summary.{noSecurity, partOf};
 ghost use Rattle.reading.specs.Fields.{SecuritySizes, securityRead};
+ghost use Rattle.reading.specs.Sizes.{sizesNumber};
 
 fn no_fields() -> SecurityFields
     ensures { λ r. ⌜ r ≡ noSecurity .fields ⌝ }
@@ -142,6 +143,24 @@ fn contents_number(s: &[u8], f: SecurityFields) -> u32
     security_contents(f, identity, info)
 }
 
+// S2 to S9, of a header of `length` bytes in n. (The length is handed in: so its sum is shared with what else the caller
+// makes of it.)
+pub(crate) fn sizes_number(n: Bytes, f: SecurityFields, length: Bytes) -> u32
+    ensures { λ r. ⌜ r ≡ sizesNumber (securitySteps f) (n .0) (length .0) ⌝ }
+{
+    let number = security_steps(f);
+    if number != refusal::PASSED {
+        return number;
+    }
+    if LIMIT < length.0 {
+        return refusal::ABOVE_THE_LIMIT;
+    }
+    if n.0 < length.0 {
+        return refusal::INPUT_SHORT;
+    }
+    refusal::PASSED
+}
+
 // S1 to S11
 pub(crate) fn security_number(s: &[u8]) -> u32
     ensures { λ r. ⌜ r ≡ securityNumber true (now (s .entry)) ⌝ }
@@ -150,16 +169,9 @@ pub(crate) fn security_number(s: &[u8]) -> u32
         return refusal::INPUT_SHORT;
     }
     let fields = fields_of(s);
-    let number = security_steps(fields);
+    let number = sizes_number(Bytes(s.len()), fields, length_of(fields));
     if number != refusal::PASSED {
         return number;
-    }
-    let length = length_of(fields).0;
-    if LIMIT < length {
-        return refusal::ABOVE_THE_LIMIT;
-    }
-    if s.len() < length {
-        return refusal::INPUT_SHORT;
     }
     contents_number(s, fields)
 }

@@ -200,6 +200,29 @@ static void check_longest(void)
     SAME(ugb_finish(&state).summary.parts.section_length, UGB_LIMIT);
 }
 
+static void check_zero(const uint8_t *bytes, size_t length)
+{
+    for (size_t i = 0; i < length; i++)
+        SAME(bytes[i], 0);
+}
+
+/* However it is cut, nothing of what follows the label is held, and without a SecurityHeader nothing of one. */
+static void check_held(void)
+{
+    for (size_t units = 0; units <= 250; units++) {
+        const size_t end = 56 + 2 * units;
+        put_properties(0, (uint8_t)units, 0);
+        memset(input + end, 0xEE, 700);
+        for (size_t most = 1; most <= 1000; most *= 3) {
+            ugb_portions state = feed_cut(ugb_start(false), input, end + 700, most);
+            SAME(memcmp(state.properties, input, end), 0);
+            check_zero(state.properties + end, sizeof state.properties - end);
+            check_zero(state.head, sizeof state.head);
+            check_zero(state.provider_type, sizeof state.provider_type);
+        }
+    }
+}
+
 /* A state that was filled by other means, with bytes around it: each call answers, and writes nothing but the state. */
 static void check_filled(void)
 {
@@ -237,6 +260,7 @@ int main(void)
     check_null();
     check_copies();
     check_longest();
+    check_held();
     check_filled();
     report();
     return 0;

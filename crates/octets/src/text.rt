@@ -76,14 +76,15 @@ fn blocks_without_zero(s: &[u8]) -> Bytes
     Bytes(i)
 }
 
-// How many bytes stand before the first zero unit: all whole units where none is zero. By whole blocks up to the one that
-// holds it, and in that one, or in what no longer fills a block, unit by unit.
-pub fn before_zero(s: &[u8]) -> Bytes
+// How many bytes stand before the first zero unit, where none stands before `from`: all whole units where none is zero.
+fn before_zero_from(s: &[u8], from: Bytes) -> Bytes
+    requires { ⌜ from .0 % 2 ≡ 0 ⌝ }
+    requires { ⌜ from .0 / 2 ≤ firstZero (units (now s)) ⌝ }
     ensures { λ r. ⌜ r .0 ≡ 2 * firstZero (units (now (s .entry))) ⌝ }
     ensures { λ r. ⌜ r .0 ≤ length (now (s .entry)) ⌝ }
 {
     let n = s.len() / 2;
-    let mut i = blocks_without_zero(s).0 / 2;
+    let mut i = from.0 / 2;
     let unit = loop {
         if n <= i {
             break i;
@@ -96,8 +97,18 @@ pub fn before_zero(s: &[u8]) -> Bytes
     Bytes(2 * unit)
 }
 
+// How many bytes stand before the first zero unit: by whole blocks up to the one that holds it, and in that one, or in
+// what no longer fills a block, unit by unit.
+pub fn before_zero(s: &[u8]) -> Bytes
+    ensures { λ r. ⌜ r .0 ≡ 2 * firstZero (units (now (s .entry))) ⌝ }
+    ensures { λ r. ⌜ r .0 ≤ length (now (s .entry)) ⌝ }
+{
+    before_zero_from(s, blocks_without_zero(s))
+}
+
 // Where the first unit that breaks the rule of a text begins: the first zero unit, or the last unit where none stands
-// before it. Asked only of what is no text.
+// before it. Asked only of what is no text. (Not by blocks: with a second caller the search by blocks would be a
+// function of its own, and a provider name in portions slower.)
 pub fn first_break(s: &[u8]) -> Bytes
     ensures { λ r. ⌜ r .0 ≡ breakAt (now (s .entry)) ⌝ }
     ensures { λ r. ⌜ r .0 ≤ length (now (s .entry)) ⌝ }
@@ -106,5 +117,5 @@ pub fn first_break(s: &[u8]) -> Bytes
     if n == 0 {
         return Bytes(0);
     }
-    smaller(before_zero(s), Bytes(2 * (n - 1)))
+    smaller(before_zero_from(s, Bytes(0)), Bytes(2 * (n - 1)))
 }

@@ -1,3 +1,5 @@
+pub mod Portion
 pub mod Refusals
 pub mod Row
+pub mod Security
 pub mod Theorems

@@ -1,3 +1,4 @@
 pub mod Answer
 pub mod Counters
+pub mod Security
 pub mod Theorems

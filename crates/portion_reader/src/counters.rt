@@ -11,8 +11,15 @@ ghost use Rattle.portion_reader.specs.Counters.{countersOf, flag, progre
 // security_first, finished, received, name_at, name_size, properties_at, and of the name units, ended, odd and low.
 pub const COUNTERS: usize = 10;
 
-// The one that changes where a portion is only counted.
+pub(crate) const SECURITY_FIRST: usize = 0;
+
+pub(crate) const FINISHED: usize = 1;
+
 pub(crate) const RECEIVED: usize = 2;
+
+pub(crate) const NAME_AT: usize = 3;
+
+pub(crate) const PROPERTIES_AT: usize = 5;
 
 // A yes or no: any number but 0 is a yes.
 fn flag(b: bool) -> usize
@@ -25,13 +32,13 @@ pub(crate) fn progress_of(counters: &[usize; COUNTERS]) -> Progress
     ensures { λ r. ⌜ r ≡ progressOf (now (counters .entry)) ⌝ }
 {
     Progress {
-        security_first: counters[0] != 0,
-        finished: counters[1] != 0,
+        security_first: counters[SECURITY_FIRST] != 0,
+        finished: counters[FINISHED] != 0,
         received: Bytes(counters[RECEIVED]),
         places: Places {
-            name_at: Bytes(counters[3]),
+            name_at: Bytes(counters[NAME_AT]),
             name_size: Bytes(counters[4]),
-            properties_at: Bytes(counters[5]),
+            properties_at: Bytes(counters[PROPERTIES_AT]),
         },
         name: NameProgress {
             units: Units((counters[6] % 4294967296) as u32),

@@ -3,18 +3,26 @@
 mod counters;
 
 use crate::counters::COUNTERS;
+use crate::counters::FINISHED;
+use crate::counters::NAME_AT;
+use crate::counters::PROPERTIES_AT;
 use crate::counters::RECEIVED;
+use crate::counters::SECURITY_FIRST;
 use crate::counters::counters_of;
 use crate::counters::progress_of;
 use octets::count::Bytes;
-use portions::finish::finish;
-use portions::portion::PortionAnswer;
-use portions::portion::counted;
-use portions::portion::only_counted;
-use portions::portion::portion;
+use portions::finish::FinishCase;
+use portions::finish::finish_case;
+use portions::portion::before_provider;
+use portions::portion::gather_security;
+use portions::portion::past_security;
+use portions::portion::received_then;
+use portions::properties::hold_properties;
+use portions::properties::label_length;
+use portions::properties::past_label;
+use portions::state::after_the_finish;
 use portions::state::start;
 use rules::refusal::Refusal;
-use rules::section::Summarized;
 use rules::section::Summary;
 use ugbariteyo::zero::no_refusal;
 use ugbariteyo::zero::no_summary;
@@ -23,7 +31,9 @@ ghost use mathlib.Core.List.{[]};
 ghost use Rattle.portions.specs.Finish.{finishAnswer};
 ghost use Rattle.portions.specs.Portion.{portionAnswer, portionState};
 ghost use Rattle.portions.specs.State.{stateOf, stateWith};
+ghost use lib.ListN.{length};
 ghost use Rattle.portion_reader.specs.Answer.{finishCounters, portionCounters, portionRefusal, stateAnswer, summarizedAnswer};
+ghost use Rattle.portion_reader.specs.Security.{countedOnly, securityCounters, securityHead, securityType};
 ghost use Rattle.portion_reader.specs.Counters.{progressOf};
 
 #[repr(C)]
@@ -56,6 +66,36 @@ pub extern "C" fn ugb_start(security_first: bool) -> UgbPortions
     }
 }
 
+// What a portion brings of a SecurityHeader, and whether all of it lies before provider info, so that it is only counted.
+// (The row is written only where more than the count changes: most portions do not come so far.)
+fn before_properties(
+    counters: &mut [usize; COUNTERS],
+    head: &mut [u8; 18],
+    provider_type: &mut [u8; 4],
+    bytes: &[u8],
+) -> bool
+    ensures { λ r. ⌜ r ≡ countedOnly (progressOf (now (counters .entry))) (length (now (bytes .entry))) ⌝ }
+    ensures { λ _. ⌜ now (counters .exit) ≡ securityCounters (now (counters .entry)) (now (head .entry)) (now (bytes .entry)) ⌝ }
+    ensures { λ _. ⌜ now (head .exit) ≡ securityHead (progressOf (now (counters .entry))) (now (head .entry)) (now (bytes .entry)) ⌝ }
+    ensures { λ _. ⌜ now («provider_type» .exit)
+        ≡ securityType (progressOf (now (counters .entry))) (now (head .entry)) (now («provider_type» .entry)) (now (bytes .entry)) ⌝ }
+{
+    let received = Bytes(counters[RECEIVED]);
+    if past_security(
+        counters[SECURITY_FIRST] != 0,
+        received,
+        Bytes(counters[PROPERTIES_AT]),
+    ) {
+        return false;
+    }
+    if before_provider(received, Bytes(counters[NAME_AT]), Bytes(bytes.len())) {
+        return true;
+    }
+    let progress = progress_of(counters);
+    *counters = counters_of(gather_security(progress, head, provider_type, bytes));
+    false
+}
+
 #[no_mangle]
 pub extern "C" fn ugb_portion_positional(
     counters: &mut [usize; COUNTERS],
@@ -75,40 +115,36 @@ pub extern "C" fn ugb_portion_positional(
     ensures { λ _. ⌜ now (properties .exit) ≡ portionState (stateWith (progressOf (now (counters .entry))) (now (head .entry))
         (now («provider_type» .entry)) (now (properties .entry))) (now (bytes .entry)) .properties ⌝ }
 {
-    let progress = progress_of(counters);
-    let n = Bytes(bytes.len());
-    if !progress.finished & only_counted(progress, n) {
-        counters[RECEIVED] = counted(progress.received, n).0;
+    if counters[FINISHED] != 0 {
+        return after_the_finish();
+    }
+    let received = Bytes(counters[RECEIVED]);
+    let after = received_then(received, Bytes(bytes.len())).0;
+    if past_label(
+        received,
+        Bytes(counters[PROPERTIES_AT]),
+        label_length(properties),
+    ) {
+        counters[RECEIVED] = after;
         return no_refusal();
     }
-    match portion(progress, head, provider_type, properties, bytes) {
-        PortionAnswer::Taken(after) => {
-            *counters = counters_of(after);
-            return no_refusal();
-        }
-        PortionAnswer::Refused(refusal) => {
-            return refusal;
-        }
+    if before_properties(counters, head, provider_type, bytes) {
+        counters[RECEIVED] = after;
+        return no_refusal();
     }
+    hold_properties(properties, Bytes(counters[PROPERTIES_AT]), received, bytes);
+    counters[RECEIVED] = after;
+    no_refusal()
 }
 
-fn summarized(answer: Summarized) -> UgbSummarized
-    ensures { λ r. ⌜ r ≡ summarizedAnswer answer ⌝ }
+// Finished from now on.
+fn close(counters: &mut [usize; COUNTERS])
+    ensures { λ _. ⌜ now (counters .exit) ≡ finishCounters (now (counters .entry)) ⌝ }
 {
-    match answer {
-        Summarized::Accepted(summary) => {
-            return UgbSummarized {
-                refusal: no_refusal(),
-                summary,
-            };
-        }
-        Summarized::Refused(refusal) => {
-            return UgbSummarized {
-                refusal,
-                summary: no_summary(),
-            };
-        }
+    if 0 < counters[FINISHED] {
+        return;
     }
+    counters[FINISHED] = 1;
 }
 
 #[no_mangle]
@@ -123,11 +159,25 @@ pub extern "C" fn ugb_finish_positional(
     ensures { λ _. ⌜ now (counters .exit) ≡ finishCounters (now (counters .entry)) ⌝ }
 {
     let progress = progress_of(counters);
-    let finished = finish(progress, head, provider_type, properties);
-    let answer = finished.answer;
-    if progress.finished {
-        return summarized(answer);
+    close(counters);
+    match finish_case(progress, head, provider_type, properties) {
+        FinishCase::WithSecurity(summary) => {
+            return UgbSummarized {
+                refusal: no_refusal(),
+                summary,
+            };
+        }
+        FinishCase::WithoutSecurity(summary) => {
+            return UgbSummarized {
+                refusal: no_refusal(),
+                summary,
+            };
+        }
+        FinishCase::Refused(refusal) => {
+            return UgbSummarized {
+                refusal,
+                summary: no_summary(),
+            };
+        }
     }
-    *counters = counters_of(finished.progress);
-    summarized(answer)
 }

@@ -1,7 +1,11 @@
 pub mod Answer
 pub mod Call
+pub mod Case
+pub mod Gathered
 pub mod Header
 pub mod Judge
+pub mod Kept
+pub mod Label
 pub mod Late
 pub mod Lists
 pub mod Name

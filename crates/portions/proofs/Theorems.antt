@@ -3,10 +3,11 @@ use Prim.Native.Nat.{ℕ}
 use mathlib.Core.Path.{_≡_, refl, sym, ap, _∙_}
 use mathlib.Core.Bool.{Bool, true, false, true≢false}
 use mathlib.Core.List.{List, [], _∷_, _++_, append-assoc, append-nil}
+use Rattle.reading.specs.Held.{heldLabel}
 use Rattle.secrecy.specs.WithoutName.{SameWithoutName}
 use Rattle.secrecy.proofs.WithoutName.{without-name}
 use Rattle.portions.specs.Calls.{Call, portion, finish, after, afterAll, finishes, joined, made}
-use Rattle.portions.specs.Finish.{finishAnswer, finishState, finishedProgress, heldLabel}
+use Rattle.portions.specs.Finish.{finishAnswer, finishState, finishedProgress}
 use Rattle.portions.specs.Portion.{portionState}
 use Rattle.portions.specs.State.{stateOf}
 use Rattle.portions.specs.Theorems.{Going, Over, SameHere, SlowLink}

@@ -1,4 +1,5 @@
 pub mod Calls
+pub mod Fed
 pub mod Finish
 pub mod Name
 pub mod Portion

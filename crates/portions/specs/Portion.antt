@@ -3,7 +3,7 @@ use Prim.Native.Nat.{ℕ}
 use mathlib.Core.Bool.{cond}
 use mathlib.Core.List.{List}
 use Rattle.rules.specs.Refusal.{refusal}
-use Rattle.portions.specs.State.{fed}
+use Rattle.portions.specs.Fed.{fed}
 use Rattle.portions.specs.declared.portion.PortionAnswer.{PortionAnswer}
 use Rattle.portions.specs.declared.portion.PortionAnswer.the-variants.{Refused, Taken}
 use Rattle.portions.specs.declared.state.State.{State}

@@ -10,9 +10,10 @@ use Rattle.rules.specs.Refusal.{refusal}
 use Rattle.rules.specs.Summary.{labelOf}
 use Rattle.rules.specs.declared.section.Summarized.the-variants.{Accepted, Refused}
 use Rattle.rules.specs.declared.section.Summary.{Summary}
+use Rattle.reading.specs.Held.{heldLabel}
 use Rattle.secrecy.specs.WithoutName.{AgreesOutsideName}
 use Rattle.portions.specs.Calls.{Call, finishes, joined, made}
-use Rattle.portions.specs.Finish.{finishAnswer, finishState, heldLabel}
+use Rattle.portions.specs.Finish.{finishAnswer, finishState}
 use Rattle.portions.specs.Portion.{portionAnswer, portionState}
 use Rattle.portions.specs.declared.portion.PortionAnswer.the-variants.{Refused as Portion·Refused, Taken}
 use Rattle.portions.specs.declared.state.State.{State}

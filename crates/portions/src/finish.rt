@@ -3,43 +3,45 @@ use crate::name::NameProgress;
 use crate::state::Progress;
 use crate::state::after_the_finish;
 use crate::window::less;
-use crate::window::passed;
 use octets::count::Bytes;
 use octets::count::Units;
 use octets::count::smaller;
 use octets::part::within;
-use reading::held::held_summary;
+use reading::held::held_judge;
+use reading::held::held_with_security;
+use reading::held::held_without_security;
 use reading::properties::properties_fields;
-use reading::section::properties_start;
 use reading::security::security_fields;
 use rules::place::provider_at;
 use rules::place::section_refusal;
-use rules::properties::PropertiesFields;
-use rules::properties::label_contents;
-use rules::properties::properties_steps;
-use rules::properties::section_end;
 use rules::refusal;
 use rules::refusal::Refusal;
-use rules::section::LIMIT;
 use rules::section::Summarized;
+use rules::section::Summary;
 use rules::security::SecurityFields;
-use rules::security::identity_head_fits;
-use rules::security::security_length;
 use rules::security::security_steps;
 ghost use mathlib.Core.Path.{_≡_};
-ghost use Prim.Native.Nat.{_+_, _*_, _≤_, min};
+ghost use Prim.Native.Nat.{_+_, _*_, min};
 ghost use Rattle.rules.specs.Place.{namePlace, securityPlace};
-ghost use Rattle.rules.specs.Properties.{readProperties};
 ghost use Rattle.rules.specs.Refusal.{limit, refusal};
-ghost use Rattle.rules.specs.Security.{providerAt, readSecurity};
+ghost use Rattle.rules.specs.Security.{providerAt};
 ghost use Rattle.reading.specs.Fields.{securityRead};
-ghost use Rattle.portions.specs.Finish.{finishAnswer, finishedProgress, heldAnswer, heldJudge, heldLabel, heldNumber};
+ghost use Rattle.reading.specs.Held.{heldBase, heldLabel};
+ghost use Rattle.portions.specs.Finish.{finishAnswer, finishCase, finishedProgress, heldJudge};
 ghost use Rattle.portions.specs.Name.{nameBreakOf, nameText};
 ghost use Rattle.portions.specs.State.{stateWith};
 
 pub struct Finished {
     pub progress: Progress,
     pub answer: Summarized,
+}
+
+// The answer of a finish. A section with a SecurityHeader and one without are cases by themselves, so that a caller that
+// fills an answer has each filled in place.
+pub enum FinishCase {
+    WithSecurity(Summary),
+    WithoutSecurity(Summary),
+    Refused(Refusal),
 }
 
 // S11, of provider info of so many bytes.
@@ -51,68 +53,6 @@ fn name_text(info_size: Bytes, name: NameProgress) -> bool
     }
     let units = name.units;
     units.bytes().0 + 2 == less(info_size, Bytes(4)).0
-}
-
-// S1 to S11, of a header in n bytes.
-fn security_number(n: Bytes, f: SecurityFields, identity: &[u8], text: bool) -> u32
-    ensures { λ r. ⌜ r ≡ readSecurity (n .0) f (now (identity .entry)) text ⌝ }
-{
-    if n.0 < 16 {
-        return refusal::INPUT_SHORT;
-    }
-    let number = security_steps(f);
-    if number != refusal::PASSED {
-        return number;
-    }
-    let length = security_length(f).0;
-    if LIMIT < length {
-        return refusal::ABOVE_THE_LIMIT;
-    }
-    if n.0 < length {
-        return refusal::INPUT_SHORT;
-    }
-    if !identity_head_fits(f, identity) {
-        return refusal::IDENTITY;
-    }
-    if !text {
-        return refusal::PROVIDER;
-    }
-    refusal::PASSED
-}
-
-// S1 to S11, where a SecurityHeader stands first.
-fn header_number(progress: Progress, f: SecurityFields, head: &[u8]) -> u32
-    requires { ⌜ f ≡ securityRead (now head) ⌝ }
-    ensures { λ r. ⌜ r ≡ heldNumber progress (now (head .entry)) ⌝ }
-{
-    if progress.security_first {
-        let text = name_text(f.provider_info_size, progress.name);
-        let identity = passed(head, Bytes(16), Bytes(2));
-        return security_number(progress.received, f, identity, text);
-    }
-    refusal::PASSED
-}
-
-// P1 to P7, of a header at `at` in n bytes.
-fn properties_number(n: Bytes, at: Bytes, f: PropertiesFields, label: &[u8]) -> u32
-    requires { ⌜ at .0 ≤ limit ⌝ }
-    ensures { λ r. ⌜ r ≡ readProperties (n .0) (at .0) f (now (label .entry)) ⌝ }
-{
-    if n.0 < at.0 + 56 {
-        return refusal::INPUT_SHORT;
-    }
-    let number = properties_steps(f);
-    if number != refusal::PASSED {
-        return number;
-    }
-    let end = section_end(f, at).0;
-    if LIMIT < end {
-        return refusal::ABOVE_THE_LIMIT;
-    }
-    if n.0 < end {
-        return refusal::INPUT_SHORT;
-    }
-    label_contents(label)
 }
 
 // The first unit of the name that breaks the rule.
@@ -144,34 +84,55 @@ fn security_refused(number: u32, f: SecurityFields, name: NameProgress, none: &[
     section_refusal(number, Bytes(0), true, f, none, none)
 }
 
-// The refusal; where no step fails its number is 0.
-fn judge(progress: Progress, head: &[u8], properties: &[u8]) -> Refusal
+// The refusal of what was judged so, its place that of the field that failed.
+fn placed(progress: Progress, head: &[u8], properties: &[u8], judged: Refusal) -> Refusal
+    requires { ⌜ judged ≡ heldBase (progress .received .0) (progress .«security_first») (now head)
+        (nameText (securityRead (now head) .«provider_info_size» .0) (progress .name)) (now properties) ⌝ }
     ensures { λ r. ⌜ r ≡ heldJudge progress (now (head .entry)) (now (properties .entry)) ⌝ }
 {
     let f = security_fields(head);
-    let number = header_number(progress, f, head);
-    if number != refusal::PASSED {
-        return security_refused(number, f, progress.name, head);
+    let at = judged.place;
+    let is_security = progress.security_first & (at.0 == 0);
+    if is_security {
+        return security_refused(judged.number, f, progress.name, head);
     }
-    let at = properties_start(head, progress.security_first);
     let h = properties_fields(properties, Bytes(0));
     let label = within(properties, Bytes(56), h.label_length.bytes());
-    let number = properties_number(progress.received, at, h, label);
-    section_refusal(number, at, false, f, head, label)
+    section_refusal(judged.number, at, false, f, head, label)
 }
 
-fn answer(progress: Progress, head: &[u8], provider_type: &[u8], properties: &[u8]) -> Summarized
-    ensures { λ r. ⌜ r ≡ heldAnswer (stateWith progress (now (head .entry)) (now («provider_type» .entry)) (now (properties .entry))) ⌝ }
+// The summary, or the refusal, of the state that these lent bytes and `progress` are. Refused with 14 where it is finished.
+pub fn finish_case(
+    progress: Progress,
+    head: &[u8; 18],
+    provider_type: &[u8; 4],
+    properties: &[u8; 556],
+) -> FinishCase
+    ensures { λ r. ⌜ r ≡ finishCase (progress .«security_first») (finishAnswer (stateWith progress (now (head .entry))
+        (now («provider_type» .entry)) (now (properties .entry)))) ⌝ }
 {
-    let refused = judge(progress, head, properties);
-    if refused.number != refusal::PASSED {
-        return Summarized::Refused(refused);
+    if progress.finished {
+        return FinishCase::Refused(after_the_finish());
     }
-    Summarized::Accepted(held_summary(progress.security_first, head, provider_type, properties))
+    let f = security_fields(head);
+    let text = name_text(f.provider_info_size, progress.name);
+    let judged = held_judge(
+        progress.received,
+        progress.security_first,
+        head,
+        text,
+        properties,
+    );
+    if judged.number != refusal::PASSED {
+        return FinishCase::Refused(placed(progress, head, properties, judged));
+    }
+    if progress.security_first {
+        return FinishCase::WithSecurity(held_with_security(head, provider_type, properties));
+    }
+    FinishCase::WithoutSecurity(held_without_security(properties))
 }
 
-// The summary, or the refusal, of the state that these lent bytes and `progress` are, which is then finished. Refused
-// with 14 where it was already.
+// The same, and what is counted and judged then: the state is finished, its lent bytes stay.
 pub fn finish(
     progress: Progress,
     head: &[u8; 18],
@@ -182,23 +143,28 @@ pub fn finish(
     ensures { λ r. ⌜ r .answer ≡ finishAnswer (stateWith progress (now (head .entry)) (now («provider_type» .entry))
         (now (properties .entry))) ⌝ }
 {
-    if progress.finished {
-        return Finished {
-            progress,
-            answer: Summarized::Refused(after_the_finish()),
-        };
-    }
-    let name = progress.name;
     let places = progress.places;
-    Finished {
-        progress: Progress {
-            security_first: progress.security_first,
-            finished: true,
-            received: Bytes(progress.received.0),
-            places,
-            name,
+    let name = progress.name;
+    let after = Progress {
+        security_first: progress.security_first,
+        finished: true,
+        received: Bytes(progress.received.0),
+        places,
+        name,
+    };
+    match finish_case(progress, head, provider_type, properties) {
+        FinishCase::WithSecurity(summary) => Finished {
+            progress: after,
+            answer: Summarized::Accepted(summary),
         },
-        answer: answer(progress, head, provider_type, properties),
+        FinishCase::WithoutSecurity(summary) => Finished {
+            progress: after,
+            answer: Summarized::Accepted(summary),
+        },
+        FinishCase::Refused(refused) => Finished {
+            progress: after,
+            answer: Summarized::Refused(refused),
+        },
     }
 }
 

@@ -3,5 +3,6 @@ pub mod finish;
 pub mod name;
 pub mod place;
 pub mod portion;
+pub mod properties;
 pub mod state;
 mod window;

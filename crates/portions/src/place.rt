@@ -7,6 +7,7 @@ use rules::place::provider_at;
 use rules::security::security_length;
 ghost use mathlib.Core.Path.{_≡_};
 ghost use Rattle.portions.specs.State.{placesOf};
+ghost use lib.ListN.{replicate};
 
 // Where the provider name begins, behind its 4-byte type, how long it is, and where the MessagePropertiesHeader begins.
 // What lies further than one byte above the limit is taken to lie there.
@@ -15,6 +16,24 @@ pub struct Places {
     pub name_at: Bytes,
     pub name_size: Bytes,
     pub properties_at: Bytes,
+}
+
+// Before any byte has come: behind the fixed bytes, where a SecurityHeader stands first.
+pub(crate) fn places_at_start(security_first: bool) -> Places
+    ensures { λ r. ⌜ r ≡ placesOf «security_first» (replicate 18 0) ⌝ }
+{
+    if security_first {
+        return Places {
+            name_at: Bytes(20),
+            name_size: Bytes(0),
+            properties_at: Bytes(16),
+        };
+    }
+    Places {
+        name_at: Bytes(0),
+        name_size: Bytes(0),
+        properties_at: Bytes(0),
+    }
 }
 
 pub(crate) fn places_of(security_first: bool, head: &[u8]) -> Places

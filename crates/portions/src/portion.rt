@@ -2,6 +2,9 @@
 use crate::name::with_bytes;
 use crate::place::Places;
 use crate::place::places_of;
+use crate::properties::hold_properties;
+use crate::properties::label_length;
+use crate::properties::past_label;
 use crate::state::Progress;
 use crate::state::after_the_finish;
 use crate::window::less;
@@ -11,10 +14,11 @@ use octets::count::Bytes;
 use octets::count::smaller;
 use rules::refusal::Refusal;
 ghost use mathlib.Core.Path.{_≡_};
-ghost use Prim.Native.Nat.{_+_, min};
-ghost use lib.ListN.{length};
-ghost use Rattle.portions.specs.State.{nameThen, onlyCounted, placesAfter, reach, stateWith};
+ghost use Prim.Native.Nat.{_+_, _-_, min};
+ghost use Rattle.portions.specs.Fed.{beforeProvider, counted, nameThen, pastSecurity, placesAfter, progressThen};
 ghost use Rattle.portions.specs.Portion.{portionAnswer, portionState};
+ghost use Rattle.portions.specs.State.{reach, stateWith};
+ghost use Rattle.portions.specs.Window.{shown};
 
 pub enum PortionAnswer {
     Taken(Progress),
@@ -24,13 +28,34 @@ pub enum PortionAnswer {
 // No answer depends on more bytes: the count stops here, so that it never wraps.
 const REACH: usize = 16777216;
 
-pub fn counted(received: Bytes, n: Bytes) -> Bytes
+pub fn received_then(received: Bytes, n: Bytes) -> Bytes
     ensures { λ r. ⌜ r .0 ≡ min reach (received .0 + n .0) ⌝ }
 {
     if REACH <= received.0 {
         return Bytes(REACH);
     }
     Bytes(received.0 + smaller(Bytes(REACH - received.0), n).0)
+}
+
+// Nothing of a SecurityHeader is still to come.
+pub fn past_security(security_first: bool, received: Bytes, properties_at: Bytes) -> bool
+    ensures { λ r. ⌜ r ≡ pastSecurity «security_first» (received .0) («properties_at» .0) ⌝ }
+{
+    if security_first {
+        return 4 <= less(received, properties_at).0;
+    }
+    true
+}
+
+// n bytes more end before provider info, and the head is there: they are only counted. (Key, signature and certificate
+// are most of a SecurityHeader.)
+pub fn before_provider(received: Bytes, name_at: Bytes, n: Bytes) -> bool
+    ensures { λ r. ⌜ r ≡ beforeProvider (received .0) («name_at» .0) (n .0) ⌝ }
+{
+    if received.0 < 18 {
+        return false;
+    }
+    n.0 <= less(less(name_at, Bytes(4)), received).0
 }
 
 // Known once the SecurityHeader's 16 fixed bytes are there; they do not change any more.
@@ -52,20 +77,46 @@ fn name_then(places: Places, received: Bytes, bytes: &[u8]) -> &[u8]
     passed(bytes, from, less(places.name_size, came))
 }
 
-// Whether of n bytes nothing is held or judged: all that is came before, or comes later and the head is there. (Most of
-// a section is key, signature, certificate, extension and body.)
-pub fn only_counted(progress: Progress, n: Bytes) -> bool
-    ensures { λ r. ⌜ r ≡ onlyCounted progress (n .0) ⌝ }
+// Head, provider type and name go on by a portion.
+pub fn gather_security(
+    progress: Progress,
+    head: &mut [u8; 18],
+    provider_type: &mut [u8; 4],
+    bytes: &[u8],
+) -> Progress
+    ensures { λ r. ⌜ r ≡ progressThen progress (now (head .exit)) (now (bytes .entry)) ⌝ }
+    ensures { λ _. ⌜ now (head .exit) ≡ shown (now (head .entry)) 0 (progress .received .0) (now (bytes .entry)) ⌝ }
+    ensures { λ r. ⌜ now («provider_type» .exit)
+        ≡ shown (now («provider_type» .entry)) (r .places .«name_at» .0 - 4) (progress .received .0) (now (bytes .entry)) ⌝ }
 {
-    let k = progress.received;
+    let received = progress.received;
+    show(head, Bytes(0), received, bytes);
+    let places = places_after(progress, head);
+    let type_at = less(places.name_at, Bytes(4));
+    show(provider_type, type_at, received, bytes);
+    let name = with_bytes(progress.name, name_then(places, received, bytes));
+    Progress {
+        security_first: progress.security_first,
+        finished: false,
+        received: received_then(received, Bytes(bytes.len())),
+        places,
+        name,
+    }
+}
+
+// What is counted, where nothing else changes.
+fn counted(progress: Progress, n: Bytes) -> Progress
+    ensures { λ r. ⌜ r ≡ counted progress (n .0) ⌝ }
+{
     let places = progress.places;
-    if 556 <= less(k, places.properties_at).0 {
-        return true;
+    let name = progress.name;
+    Progress {
+        security_first: progress.security_first,
+        finished: progress.finished,
+        received: received_then(progress.received, n),
+        places,
+        name,
     }
-    if k.0 < 18 {
-        return false;
-    }
-    n.0 <= less(less(places.name_at, Bytes(4)), k).0
 }
 
 // Feeds a portion to the state that these lent bytes and `progress` are. Refused with 14 after the finish, and then the
@@ -90,29 +141,19 @@ pub fn portion(
         return PortionAnswer::Refused(after_the_finish());
     }
     let received = progress.received;
+    let at = progress.places.properties_at;
     let n = Bytes(bytes.len());
-    if only_counted(progress, n) {
-        let places = progress.places;
-        let name = progress.name;
-        return PortionAnswer::Taken(Progress {
-            security_first: progress.security_first,
-            finished: false,
-            received: counted(received, n),
-            places,
-            name,
-        });
+    if past_label(received, at, label_length(properties)) {
+        return PortionAnswer::Taken(counted(progress, n));
     }
-    show(head, Bytes(0), received, bytes);
-    let places = places_after(progress, head);
-    let type_at = less(places.name_at, Bytes(4));
-    show(provider_type, type_at, received, bytes);
-    show(properties, places.properties_at, received, bytes);
-    let name = with_bytes(progress.name, name_then(places, received, bytes));
-    PortionAnswer::Taken(Progress {
-        security_first: progress.security_first,
-        finished: false,
-        received: counted(received, n),
-        places,
-        name,
-    })
+    if past_security(progress.security_first, received, at) {
+        hold_properties(properties, at, received, bytes);
+        return PortionAnswer::Taken(counted(progress, n));
+    }
+    if before_provider(received, progress.places.name_at, n) {
+        return PortionAnswer::Taken(counted(progress, n));
+    }
+    let after = gather_security(progress, head, provider_type, bytes);
+    hold_properties(properties, after.places.properties_at, received, bytes);
+    PortionAnswer::Taken(after)
 }

@@ -1,7 +1,7 @@
 // The state of a section that comes in portions: what is kept of all bytes so far, whatever the section's length.
 use crate::name::NameProgress;
 use crate::place::Places;
-use crate::place::places_of;
+use crate::place::places_at_start;
 use octets::count::Bytes;
 use octets::count::Units;
 use rules::refusal;
@@ -35,13 +35,12 @@ pub struct State {
 pub fn start(security_first: bool) -> State
     ensures { λ r. ⌜ r ≡ stateOf «security_first» [] ⌝ }
 {
-    let head = [0u8; 18];
     State {
         progress: Progress {
             security_first,
             finished: false,
             received: Bytes(0),
-            places: places_of(security_first, &head),
+            places: places_at_start(security_first),
             name: NameProgress {
                 units: Units(0),
                 ended: false,
@@ -49,14 +48,14 @@ pub fn start(security_first: bool) -> State
                 low: 0,
             },
         },
-        head,
+        head: [0u8; 18],
         provider_type: [0u8; 4],
         properties: [0u8; 556],
     }
 }
 
 // 14
-pub(crate) fn after_the_finish() -> Refusal
+pub fn after_the_finish() -> Refusal
     ensures { λ r. ⌜ r ≡ refusal 14 0 ⌝ }
 {
     Refusal {

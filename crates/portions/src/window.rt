@@ -2,7 +2,7 @@
 use octets::count::Bytes;
 use octets::over::copy;
 ghost use mathlib.Core.Path.{_≡_};
-ghost use Prim.Native.Nat.{_-_};
+ghost use Prim.Native.Nat.{_+_, _-_};
 ghost use lib.ListN.{take, drop};
 ghost use Rattle.portions.specs.Window.{shown};
 
@@ -48,4 +48,21 @@ pub(crate) fn passed(portion: &[u8], from: Bytes, most: Bytes) -> &[u8]
         return &portion[start..];
     }
     &portion[start..start + size]
+}
+
+// The bytes of a portion up to the end of what is held, so many from `at` on in all that comes.
+pub(crate) fn up_to(portion: &[u8], at: Bytes, received: Bytes, held: Bytes) -> &[u8]
+    ensures { λ r. ⌜ now r ≡ take (at .0 + held .0 - received .0) (now (portion .entry)) ⌝ }
+{
+    if received.0 < at.0 {
+        let skip = at.0 - received.0;
+        if portion.len() < skip {
+            return portion;
+        }
+        if portion.len() - skip < held.0 {
+            return portion;
+        }
+        return passed(portion, Bytes(0), Bytes(skip + held.0));
+    }
+    passed(portion, Bytes(0), less(held, Bytes(received.0 - at.0)))
 }

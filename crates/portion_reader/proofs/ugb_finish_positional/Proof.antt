@@ -1,42 +1,56 @@
--- The answer is handed on; the counters change at the first finish.
+-- The case picks the answer; the counters are closed.
 use denote.Ref.{now}
-use mathlib.Core.Path.{_≡_, refl, sym, ap, _∙_}
+use mathlib.Core.Bool.{Bool}
+use mathlib.Core.Path.{_≡_, sym, ap, _∙_}
 use borrow.Author.Needs.{needs}
-use Rattle.octets.proofs.Laws.Steps.{answers, passed, the}
-use Rattle.portions.specs.Finish.{finishAnswer, finishedProgress}
+use Rattle.octets.proofs.Laws.Steps.{the}
+use Rattle.portions.specs.Finish.{finishAnswer, finishCase}
 use Rattle.portions.specs.State.{stateWith}
+use Rattle.portions.specs.declared.finish.FinishCase.{FinishCase}
 use Rattle.portions.specs.declared.state.Progress.{Progress}
-use Rattle.portion_reader.specs.Answer.{finishCounters, summarizedAnswer}
-use Rattle.portion_reader.specs.Counters.{countersOf, progressOf}
+use Rattle.portions.proofs.Laws.Case.{answerOf, case-answer}
+use Rattle.portion_reader.specs.Answer.{summarizedAnswer}
+use Rattle.portion_reader.specs.Counters.{progressOf}
 use Rattle.portion_reader.proofs.ugb_finish_positional.Statement.{statement}
 use Rattle.portion_reader.proofs.ugb_finish_positional.Tie as tie
 
-told : (c : tie.After-progress-of) → c .progress-of .result ≡ progressOf (now (the tie.Start (search) .args .counters))
-told c = c .progress-of .ensures
-
-answer : (c : tie.After-finish)
+-- the answer that the case says
+answer : (c : tie.After-finish-case)
     → let a = the tie.Start (search) .args in
-    summarizedAnswer (c .finish .result .answer)
-    ≡ summarizedAnswer (finishAnswer (stateWith (progressOf (now (a .counters))) (now (a .head)) (now (a .provider-type)) (now (a .properties))))
+    answerOf (c .finish-case .result)
+    ≡ finishAnswer (stateWith (progressOf (now (a .counters))) (now (a .head)) (now (a .provider-type)) (now (a .properties)))
 answer c =
     let a = the tie.Start (search) .args in
-    ap summarizedAnswer
-    (c .finish .ensures .1
-    ∙ ap (λ (p : Progress). finishAnswer (stateWith p (now (a .head)) (now (a .provider-type)) (now (a .properties)))) (told (search)))
+    ap answerOf (c .finish-case .ensures)
+    ∙ case-answer _ _
+    ∙ ap (λ (p : Progress). finishAnswer (stateWith p (now (a .head)) (now (a .provider-type)) (now (a .properties))))
+    (the tie.After-progress-of (search) .progress-of .ensures)
 
 returns : tie.Need-returns
-unfolding finishCounters
+unfolding summarizedAnswer
 returns c =
-    let closed = sym (ap (λ (p : Progress). p .finished) (told (search))) ∙ the tie.Then1 (search) .if1 .taken in
-    (c .summarized .ensures ∙ answer (search), answers _ _ _ _ (sym closed) refl)
+    let m = the tie.After-summary (search) .summary in
+    let told = ap answerOf (sym (m .given .1)) ∙ answer (search) in (
+      (λ i. record { refusal = c .no-refusal .ensures i; summary = m .given .0 .0 }) ∙ ap summarizedAnswer told,
+      the tie.After-close (search) .close .ensures,
+    )
 
 returns-2 : tie.Need-returns-2
-unfolding finishCounters
+unfolding summarizedAnswer
 returns-2 c =
-    let going = sym (ap (λ (p : Progress). p .finished) (told (search))) ∙ the tie.Else1 (search) .if1 .left in
-    let after = the tie.After-finish (search) .finish .ensures .0 ∙ ap finishedProgress (told (search)) in (
-      c .summarized2 .ensures ∙ answer (search),
-      passed _ _ _ _ (sym going) (the tie.After-counters-of (search) .counters-of .ensures ∙ ap countersOf after),
+    let m = the tie.After-summary2 (search) .summary2 in
+    let told = ap answerOf (sym (m .given .1)) ∙ answer (search) in (
+      (λ i. record { refusal = c .no-refusal2 .ensures i; summary = m .given .0 .0 }) ∙ ap summarizedAnswer told,
+      the tie.After-close (search) .close .ensures,
+    )
+
+returns-3 : tie.Need-returns-3
+unfolding summarizedAnswer
+returns-3 c =
+    let r = the tie.After-refusal (search) .refusal in
+    let told = ap answerOf (sym (r .given .1)) ∙ answer (search) in (
+      (λ i. record { refusal = r .given .0 .0; summary = c .no-summary .ensures i }) ∙ ap summarizedAnswer told,
+      the tie.After-close (search) .close .ensures,
     )
 
 pub ugb-finish-positional-spec : {M : Type 1} → statement M
@@ -46,7 +60,12 @@ ugb-finish-positional-spec =
     (λ c κs. search needs)
     (λ c κs. search needs)
     (λ c κs. search needs)
+    (λ c. search needs)
+    (λ c κs. search needs)
     returns
+    (λ c. search needs)
     (λ c κs. search needs)
+    returns-2
+    (λ c. search needs)
     (λ c κs. search needs)
-    returns-2)
+    returns-3)

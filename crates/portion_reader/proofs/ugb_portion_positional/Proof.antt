@@ -1,130 +1,117 @@
--- Only counted, or the answer picks the case; the state's bytes are as the portion left them.
+-- Refused; or by where the portion's bytes lie.
 use Prim.Native.Nat.{ℕ, _+_, min}
 use denote.Ref.{now}
 use mathlib.Core.List.{List}
-use mathlib.Core.Bool.{Bool, not, _&&_, and-eq-true-iff}
+use mathlib.Core.Bool.{true, false}
 use mathlib.Core.Path.{_≡_, sym, ap, _∙_}
-use lib.ListN.{length, set}
+use lib.ListN.{length, getD, set}
 use borrow.Author.Needs.{needs}
-use borrow.Author.Tests.{not-true}
-use Rattle.octets.proofs.Laws.Steps.{answers, passed, the}
-use Rattle.portions.specs.Portion.{portionAnswer, portionState}
-use Rattle.portions.specs.State.{onlyCounted, reach, stateWith}
-use Rattle.portions.specs.declared.state.Progress.{Progress}
-use Rattle.portions.specs.declared.state.State.{State}
-use Rattle.portions.proofs.Laws.Call.{counted-fed, taken-answer, taken-state}
-use Rattle.portion_reader.specs.Answer.{answerCounters, portionCounters, portionRefusal}
+use borrow.Author.Tests.{eq-eqb, ne-eqb}
+use Rattle.octets.proofs.Laws.Steps.{the}
+use Rattle.portions.specs.Fed.{pastLabel, propertiesThen}
+use Rattle.portions.specs.State.{reach}
 use Rattle.portion_reader.specs.Counters.{progressOf}
+use Rattle.portion_reader.proofs.Portion.{counted-left, held-left, label-left, refused}
 use Rattle.portion_reader.proofs.ugb_portion_positional.Statement.{statement}
 use Rattle.portion_reader.proofs.ugb_portion_positional.Tie as tie
 
--- the state at the entry
-entry : tie.After-only-counted → tie.Start
-entry c = search
+-- the second number says whether it is finished
+closed : (row : List ℕ) → ¬ (getD row 1 0 ≡ 0) → progressOf row .finished ≡ true
+unfolding progressOf
+closed row some = rw (ne-eqb (getD row 1 0) 0 some)
 
-state : tie.After-only-counted → Progress → State
-state c p = let a = entry (search) .args in stateWith p (now (a .head)) (now (a .provider-type)) (now (a .properties))
-
-told : (c : tie.After-only-counted) → the tie.After-progress-of (search) .progress-of .result ≡ progressOf (now (entry c .args .counters))
-unfolding entry
-told c = the tie.After-progress-of (search) .progress-of .ensures
-
--- the test, of the state that the counters are
-tested : (c : tie.After-only-counted)
-    → let p = progressOf (now (entry c .args .counters)) in
-    (not (the tie.After-progress-of (search) .progress-of .result .finished) && c .only-counted .result)
-    ≡ (not (p .finished) && onlyCounted p (length (now (entry c .args .bytes))))
-unfolding entry
-tested c =
-    let n = length (now (entry c .args .bytes)) in
-    ap (λ (b : Bool). not (the tie.After-progress-of (search) .progress-of .result .finished) && b) (c .only-counted .ensures)
-    ∙ ap (λ (p : Progress). not (p .finished) && onlyCounted p n) (told c)
+going : (row : List ℕ) → getD row 1 0 ≡ 0 → progressOf row .finished ≡ false
+unfolding progressOf
+going row none = rw (eq-eqb (getD row 1 0) 0 none)
 
 returns : tie.Need-returns
-unfolding entry state portionRefusal portionCounters
 returns c =
-    let a = entry (search) .args in
-    let counters = now (a .counters) in
-    let t = now (a .bytes) in
-    let x = state (search) (progressOf counters) in
-    let e = sym (tested (search)) ∙ the tie.Then1 (search) .if1 .taken in
-    let both = and-eq-true-iff (not (x .progress .finished)) (onlyCounted (x .progress) (length t)) .0 e in
-    let going = not-true (x .progress .finished) (both .0) in
-    let stays = sym (taken-state x t going ∙ counted-fed x t (both .1)) in
-    let received = the tie.After-counted (search) .counted .ensures ∙ ap (λ (p : Progress). min reach (p .received .0 + length t)) (told (search)) in (
-      c .no-refusal .ensures ∙ ap portionRefusal (sym (taken-answer x t going)),
-      (
-        answers _ _ _ _ (sym e) (ap (set counters 2) received),
-        (ap (λ (y : State). y .head) stays, (ap (λ (y : State). y .«provider_type») stays, ap (λ (y : State). y .properties) stays)),
-      ),
-    )
+    let a = the tie.Start (search) .args in
+    let l = refused (now (a .counters)) (now (a .head)) (now (a .provider-type)) (now (a .properties)) (now (a .bytes))
+    (closed (now (a .counters)) (the tie.Then1 (search) .if1 .taken)) in
+    (c .after-the-finish .ensures ∙ l .0, l .1)
 
--- not only counted: what the library's portion promises, of the state that the counters are
-looked : (c : tie.After-portion) → tie.After-only-counted
-looked c = search
+-- the entry and the first test, which are far behind the returns
+entry : tie.After-past-label → tie.Start
+entry c = search
 
-answer : (c : tie.After-portion)
-    → c .portion .result ≡ portionAnswer (state (looked c) (progressOf (now (entry (looked c) .args .counters)))) (now (entry (looked c) .args .bytes))
-unfolding entry state looked
-answer c =
-    c .portion .ensures .0
-    ∙ ap (λ (p : Progress). portionAnswer (state (looked c) p) (now (entry (looked c) .args .bytes))) (told (looked c))
+running : (c : tie.After-past-label) → progressOf (now (entry c .args .counters)) .finished ≡ false
+unfolding entry
+running c = going (now (entry c .args .counters)) (the tie.Else1 (search) .if1 .left)
 
--- the windows, of the progress that was read from the counters
-written : {p q : Progress} → p ≡ q → (f : Progress → State) {head type properties : List ℕ}
-    → head ≡ f p .head → type ≡ f p .«provider_type» → properties ≡ f p .properties
-    → (head ≡ f q .head) × ((type ≡ f q .«provider_type») × (properties ≡ f q .properties))
-written e f h t b = (
-  h ∙ ap (λ (x : Progress). f x .head) e,
-  (t ∙ ap (λ (x : Progress). f x .«provider_type») e, b ∙ ap (λ (x : Progress). f x .properties) e),
-)
+received : (c : tie.After-past-label)
+    → let a = entry c .args in
+    the tie.After-received-then (search) .received-then .result .0 ≡ min reach (getD (now (a .counters)) 2 0 + length (now (a .bytes)))
+unfolding entry
+received c = the tie.After-received-then (search) .received-then .ensures
+
+label-told : (c : tie.After-past-label)
+    → let a = entry c .args in
+    let row = now (a .counters) in
+    c .past-label .result ≡ pastLabel (getD row 2 0) (getD row 5 0) (getD (now (a .properties)) 1 0)
+unfolding entry
+label-told c =
+    let row = now (entry c .args .counters) in
+    c .past-label .ensures ∙ ap (pastLabel (getD row 2 0) (getD row 5 0)) (the tie.After-label-length (search) .label-length .ensures)
 
 returns-2 : tie.Need-returns-2
-unfolding entry state looked portionRefusal portionCounters answerCounters
+unfolding entry progressOf
 returns-2 c =
-    let l = looked (search) in
-    let a = entry l .args in
-    let t = now (a .bytes) in
-    let e = sym (tested l) ∙ the tie.Else1 (search) .if1 .left in
-    let after = sym (the tie.After-after (search) .after .given .1) ∙ answer (search) in
-    let fed = the tie.After-portion (search) .portion .ensures .1 in (
-      c .no-refusal2 .ensures ∙ ap portionRefusal after,
-      (
-        passed _ _ _ _ (sym e) (the tie.After-counters-of (search) .counters-of .ensures ∙ ap (answerCounters (now (a .counters))) after),
-        written (told l) (λ p. portionState (state l p) t) (fed .0) (fed .1 .0) (fed .1 .1),
-      ),
-    )
+    let f : tie.After-past-label = search in
+    let a = entry f .args in
+    let row = now (a .counters) in
+    let l = label-left row (now (a .head)) (now (a .provider-type)) (now (a .properties)) (now (a .bytes)) (running f)
+    (sym (label-told f) ∙ the tie.Then2 (search) .if2 .taken) in
+    (c .no-refusal .ensures ∙ l .0, (ap (set row 2) (received f) ∙ l .1 .0, l .1 .1))
 
 returns-3 : tie.Need-returns-3
-unfolding entry state looked portionRefusal portionCounters answerCounters
+unfolding entry progressOf
 returns-3 c =
-    let l = looked (search) in
-    let a = entry l .args in
-    let t = now (a .bytes) in
-    let e = sym (tested l) ∙ the tie.Else1 (search) .if1 .left in
-    let refused = sym (the tie.After-refusal (search) .refusal .given .1) ∙ answer (search) in
-    let fed = the tie.After-portion (search) .portion .ensures .1 in (
-      ap portionRefusal refused,
-      (
-        passed _ _ _ _ (sym e) (ap (answerCounters (now (a .counters))) refused),
-        written (told l) (λ p. portionState (state l p) t) (fed .0) (fed .1 .0) (fed .1 .1),
-      ),
+    let f : tie.After-past-label = search in
+    let a = entry f .args in
+    let b = the tie.After-before-properties (search) .before-properties .ensures in
+    let l = counted-left (now (a .counters)) (now (a .head)) (now (a .provider-type)) (now (a .properties)) (now (a .bytes)) (running f)
+    (sym (label-told f) ∙ the tie.Else2 (search) .if2 .left) (sym (b .0) ∙ the tie.Then3 (search) .if3 .taken) in (
+      c .no-refusal2 .ensures ∙ l .0,
+      ((λ i. set (b .1 .0 i) 2 (received f i)) ∙ l .1 .0, (b .1 .1 .0 ∙ l .1 .1 .0, (b .1 .1 .1 ∙ l .1 .1 .1 .0, l .1 .1 .1 .1))),
+    )
+
+returns-4 : tie.Need-returns-4
+unfolding entry progressOf
+returns-4 c =
+    let f : tie.After-past-label = search in
+    let a = entry f .args in
+    let row = now (a .counters) in
+    let b = the tie.After-before-properties (search) .before-properties .ensures in
+    let l = held-left row (now (a .head)) (now (a .provider-type)) (now (a .properties)) (now (a .bytes)) (running f)
+    (sym (label-told f) ∙ the tie.Else2 (search) .if2 .left) (sym (b .0) ∙ the tie.Else3 (search) .if3 .left) in
+    let held = the tie.After-hold-properties (search) .hold-properties .ensures
+    ∙ ap (λ (r : List ℕ). propertiesThen (now (a .properties)) (getD r 5 0) (getD row 2 0) (now (a .bytes))) (b .1 .0) in (
+      c .no-refusal3 .ensures ∙ l .0,
+      ((λ i. set (b .1 .0 i) 2 (received f i)) ∙ l .1 .0, (b .1 .1 .0 ∙ l .1 .1 .0, (b .1 .1 .1 ∙ l .1 .1 .1 .0, held ∙ l .1 .1 .1 .1))),
     )
 
 pub ugb-portion-positional-spec : {M : Type 1} → statement M
 ugb-portion-positional-spec =
     tie.close
     (tie.spec
-    (λ c κs. search needs)
-    (λ c κs. search needs)
-    (λ c κs. search needs)
     (λ c. search needs)
     (λ c κs. search needs)
     returns
+    (λ c. search needs)
     (λ c κs. search needs)
     (λ c. search needs)
     (λ c κs. search needs)
+    (λ c κs. search needs)
+    (λ c. search needs)
     (λ c κs. search needs)
     returns-2
+    (λ c κs. search needs)
     (λ c. search needs)
-    returns-3)
+    (λ c κs. search needs)
+    returns-3
+    (λ c. search needs)
+    (λ c κs. search needs)
+    (λ c. search needs)
+    (λ c κs. search needs)
+    returns-4)

@@ -25,15 +25,14 @@ use Rattle.rules.specs.declared.security.SecurityFields.{SecurityFields}
 use Rattle.rules.specs.declared.security.SecurityHeader.{SecurityHeader}
 use Rattle.rules.proofs.Laws.Accepted.{accepted-at, judge-passed, properties-fits, security-number}
 use Rattle.reading.specs.Fields.{propertiesRead, securityRead}
-use Rattle.reading.specs.Held.{heldHeader, heldSecurity, heldSummary}
+use Rattle.reading.specs.Held.{heldHeader, heldLabel, heldPropertiesNumber, heldSecurity, heldSecurityNumber, heldStart, heldSummary}
 use Rattle.reading.proofs.Laws.Fields.{header-bytes, start-passed}
-use Rattle.portions.specs.Finish.{heldAnswer, heldJudge, heldLabel, heldNumber}
+use Rattle.portions.specs.Finish.{heldAnswer, heldJudge}
 use Rattle.portions.specs.Name.{nameBreakOf, nameText}
-use Rattle.portions.specs.State.{placesIn, placesOf, reach, stateOf}
+use Rattle.portions.specs.State.{placesIn, placesOf, propertiesIn, reach, stateOf}
 use Rattle.portions.specs.Window.{window}
 use Rattle.portions.specs.declared.state.State.{State}
 use Rattle.portions.proofs.Laws.Header.{identity-held, name-held}
-use Rattle.portions.proofs.Laws.Judge.{startHeld}
 use Rattle.portions.proofs.Laws.Late.{counts, properties-late, properties-place-late, security-late, security-place-late, seven-whole, twelve-whole}
 use Rattle.portions.proofs.Laws.Places.{security-held}
 use Rattle.portions.proofs.Laws.Properties.{fields-held, label-in}
@@ -45,11 +44,14 @@ unfolding securityContents
 contents-same f x y a b e q = rw (e, q)
 
 -- S1 to S11
-number-held : (first : Bool) (s : List ℕ) → heldNumber (stateOf first s .progress) (window 18 s 0) ≡ securityNumber first s
-unfolding heldNumber securityNumber stateOf
+number-held : (first : Bool) (s : List ℕ)
+    → let x = stateOf first s in
+    heldSecurityNumber (min reach (length s)) first (x .head) (nameText (securityRead (x .head) .«provider_info_size» .0) (x .progress .name))
+    ≡ securityNumber first s
+unfolding heldSecurityNumber securityNumber stateOf
 number-held true s =
     let n = min reach (length s) in
-    let head = take 2 (drop 16 (window 18 s 0)) in
+    let head = within (window 18 s 0) 16 2 in
     let name = stateOf true s .progress .name in
     let f = securityFields s in
     ap (λ (g : SecurityFields). readSecurity n g head (nameText (g .«provider_info_size» .0) name)) (security-held s)
@@ -57,14 +59,14 @@ number-held true s =
     contents-same f head (identityAt s) _ _ (identity-held s z small whole) (name-held s z small whole .0)
 number-held false s = refl
 
-start-same : (first : Bool) (s : List ℕ) → startHeld first (window 18 s 0) ≡ startAt first s
-unfolding startAt headerAt securityHeader securityParts noSecurity
+start-same : (first : Bool) (s : List ℕ) → heldStart first (stateOf first s .head) ≡ startAt first s
+unfolding heldStart stateOf startAt headerAt securityHeader securityParts noSecurity
 start-same true s = ap securityLength (security-held s)
 start-same false s = refl
 
 -- once S1 to S11 have passed, the window lies there
-window-start : (first : Bool) (s : List ℕ) → startAt first s ≤ limit → placesOf first (window 18 s 0) .«properties_at» .0 ≡ startAt first s
-unfolding placesOf placesIn
+window-start : (first : Bool) (s : List ℕ) → startAt first s ≤ limit → stateOf first s .progress .places .«properties_at» .0 ≡ startAt first s
+unfolding stateOf placesOf placesIn heldStart
 window-start true s small = let e = start-same true s in omega (arith, e)
 window-start false s small = start-same false s
 
@@ -76,13 +78,27 @@ break-held true s e z =
     name-held s z (w .0) (w .1) .1
 break-held false s e z = absurd (omega arith)
 
-section-same : (n : ℕ) (f : SecurityFields) (p a b l m : ℕ) (x y : List ℕ)
-    → (n ≡ 0 → propertiesRefusal l p x ≡ propertiesRefusal m p y) → (¬ (n ≡ 0) → securityRefusal n f a ≡ securityRefusal n f b)
-    → sectionRefusal n f a l p x ≡ sectionRefusal n f b m p y
+-- the place in a SecurityHeader, which is looked for where one refuses
+security-refused : (first : Bool) (s : List ℕ) → ¬ (securityNumber first s ≡ 0)
+    → let x = stateOf first s in
+    let g = securityRead (x .head) in
+    securityRefusal (securityNumber first s) g (nameBreakOf (g .«provider_info_size» .0) (x .progress .name))
+    ≡ securityRefusal (securityNumber first s) (securityFields s) (nameBreak (providerInfoAt s))
+unfolding stateOf securityNumber
+security-refused true s some =
+    let n = securityNumber true s in
+    let name = stateOf true s .progress .name in
+    ap (λ (g : SecurityFields). securityRefusal n g (nameBreakOf (g .«provider_info_size» .0) name)) (security-held s)
+    ∙ security-place-late n (securityFields s) _ _ (break-held true s)
+security-refused false s some = absurd (some refl)
+
+section-same : (n : ℕ) (f g : SecurityFields) (p a b l m : ℕ) (x y : List ℕ)
+    → (n ≡ 0 → propertiesRefusal l p x ≡ propertiesRefusal m p y) → (¬ (n ≡ 0) → securityRefusal n f a ≡ securityRefusal n g b)
+    → sectionRefusal n f a l p x ≡ sectionRefusal n g b m p y
 unfolding sectionRefusal
-section-same n f p a b l m x y none some = go (eqb n 0) refl
+section-same n f g p a b l m x y none some = go (eqb n 0) refl
   where
-    go : (t : Bool) → eqb n 0 ≡ t → cond t (propertiesRefusal l p x) (securityRefusal n f a) ≡ cond t (propertiesRefusal m p y) (securityRefusal n f b)
+    go : (t : Bool) → eqb n 0 ≡ t → cond t (propertiesRefusal l p x) (securityRefusal n f a) ≡ cond t (propertiesRefusal m p y) (securityRefusal n g b)
     go true e = none (eqb-true n 0 e)
     go false e = some (eqb-false n 0 e)
 
@@ -101,9 +117,9 @@ module _ (first : Bool) (s : List ℕ) where
     small : p ≤ limit
     small = start-passed first s none .small
 
-    properties-window : x .properties ≡ window 556 s p
+    properties-window : x .properties ≡ propertiesIn p s
     unfolding stateOf
-    properties-window = ap (window 556 s) (window-start first s small)
+    properties-window = ap (λ (at : ℕ). propertiesIn at s) (window-start first s small)
 
     pub fields-same : propertiesRead (x .properties) 0 ≡ f
     unfolding fieldsAt
@@ -117,7 +133,7 @@ module _ (first : Bool) (s : List ℕ) where
         let l = labelBytes f in
         let few = properties-fits f p (propertiesParts p f) z end refl .label in
         let inside = le-padded 4 (omega arith) (56 + l + f .«extension_size» .0 + f .«message_size» .0) in
-        ap (λ (w : List ℕ). within w 56 l) properties-window ∙ label-in s p l (omega arith) (omega arith)
+        ap (λ (w : List ℕ). within w 56 l) properties-window ∙ label-in s p (omega arith) (omega arith)
 
     pub number-same : readProperties (min reach (length s)) p f (heldLabel (x .properties) (labelBytes f)) ≡ propertiesNumber s p
     unfolding propertiesNumber fieldsAt
@@ -141,17 +157,15 @@ module _ (first : Bool) (s : List ℕ) where
 
   -- the refusal
   judge-held : heldJudge (x .progress) (x .head) (x .properties) ≡ judge first s
-  unfolding heldJudge judge stateOf
+  unfolding heldJudge heldPropertiesNumber judge stateOf
   judge-held =
-      let name = x .progress .name in
-      let h = propertiesRead (x .properties) 0 in
-      let label = heldLabel (x .properties) (labelBytes h) in
-      let g = securityFields s in
-      (λ i.
-      sectionRefusal (number-held first s i) (security-held s i) (nameBreakOf (security-held s i .«provider_info_size» .0) name)
-      (readProperties (min reach (length s)) (start-same first s i) h label) (start-same first s i) label)
-      ∙ section-same (securityNumber first s) g p _ (nameBreak (providerInfoAt s)) _ (propertiesNumber s p) label (labelAt s p) properties-refused
-      (λ some. security-place-late (securityNumber first s) g _ _ (break-held first s))
+      let g = securityRead (x .head) in
+      let break = nameBreakOf (g .«provider_info_size» .0) (x .progress .name) in
+      let n = min reach (length s) in
+      let label = heldLabel (x .properties) (labelBytes (propertiesRead (x .properties) 0)) in
+      (λ i. sectionRefusal (number-held first s i) g break (heldPropertiesNumber n (start-same first s i) (x .properties)) (start-same first s i) label)
+      ∙ section-same (securityNumber first s) g (securityFields s) p break (nameBreak (providerInfoAt s)) _ (propertiesNumber s p) label (labelAt s p)
+      properties-refused (security-refused first s)
 
 -- the type at the front of provider info
 type-held : (s : List ℕ) → judge true s .number ≡ 0 → le 4 (stateOf true s .«provider_type») 0 ≡ le 4 s (providerAt (securityFields s))
@@ -183,8 +197,8 @@ header-true s e =
     }
 
 header-held : (first : Bool) (s : List ℕ) → judge first s .number ≡ 0
-    → heldHeader first (window 18 s 0) (stateOf first s .«provider_type») ≡ headerAt first s
-unfolding heldHeader heldSecurity headerAt securityHeader
+    → heldHeader first (stateOf first s .head) (stateOf first s .«provider_type») ≡ headerAt first s
+unfolding heldHeader heldSecurity headerAt securityHeader stateOf
 header-held true s e = header-true s e
 header-held false s e = refl
 
@@ -194,7 +208,7 @@ header-passed first s e = security-number first s .1 (judge-passed first s .0 e 
 
 module _ (first : Bool) (s : List ℕ) where
   summary-held : judge first s .number ≡ 0
-      → heldSummary first (window 18 s 0) (stateOf first s .«provider_type») (stateOf first s .properties) ≡ summaryAt first s
+      → heldSummary first (stateOf first s .head) (stateOf first s .«provider_type») (stateOf first s .properties) ≡ summaryAt first s
   unfolding heldSummary summaryAt startAt
   summary-held e =
       let none = header-passed first s e in
@@ -205,7 +219,7 @@ module _ (first : Bool) (s : List ℕ) where
   pub state-answer : heldAnswer (stateOf first s) ≡ summarize first s
   unfolding heldAnswer summarize stateOf
   state-answer =
-      let m = heldSummary first (window 18 s 0) (stateOf first s .«provider_type») (stateOf first s .properties) in
+      let m = heldSummary first (stateOf first s .head) (stateOf first s .«provider_type») (stateOf first s .properties) in
       ap (λ (r : Refusal). cond (eqb (r .number) 0) (Accepted m) (Refused r)) (judge-held first s)
       ∙ go m (eqb (judge first s .number) 0) refl summary-held
     where

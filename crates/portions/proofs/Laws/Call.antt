@@ -1,15 +1,15 @@
 -- What a call does by whether the state is finished.
 use Prim.Native.Nat.{ℕ}
 use mathlib.Core.Path.{_≡_, refl, sym}
-use mathlib.Core.Bool.{true, false}
+use mathlib.Core.Bool.{Bool, true, false, _||_, cond, true≢false}
 use mathlib.Core.List.{List}
 use lib.ListN.{length}
-use Rattle.octets.proofs.Laws.Steps.{answers, passed}
 use Rattle.rules.specs.Refusal.{refusal}
 use Rattle.rules.specs.declared.section.Summarized.the-variants.{Refused}
 use Rattle.portions.specs.Finish.{finishAnswer, heldAnswer}
 use Rattle.portions.specs.Portion.{portionAnswer, portionState}
-use Rattle.portions.specs.State.{counted, fed, gathered, onlyCounted, stateWith}
+use Rattle.portions.specs.Fed.{beforeProvider, counted, countsOnly, fed, gathered, labelLength, pastLabel, pastSecurity, propertiesThen, securityStays}
+use Rattle.portions.specs.State.{stateWith}
 use Rattle.portions.specs.declared.portion.PortionAnswer.the-variants.{Refused as Portion·Refused, Taken}
 use Rattle.portions.specs.declared.state.State.{State}
 
@@ -41,13 +41,56 @@ module _ (x : State) (t : List ℕ) (closed : x .progress .finished ≡ true) wh
   unfolding portionState
   refused-state = rw closed
 
--- a portion by whether it is only counted
+-- a portion by where its bytes lie
 module _ (x : State) (t : List ℕ) where
-  pub counted-fed : onlyCounted (x .progress) (length t) ≡ true
-      → fed x t ≡ stateWith (counted (x .progress) (length t)) (x .head) (x .«provider_type») (x .properties)
-  unfolding fed
-  counted-fed e = sym (answers _ _ _ _ (sym e) refl)
+  abbrev k : ℕ
+  k = x .progress .received .0
 
-  pub gathered-fed : onlyCounted (x .progress) (length t) ≡ false → fed x t ≡ gathered x t
+  abbrev at : ℕ
+  at = x .progress .places .«properties_at» .0
+
+  abbrev counts : List ℕ → State
+  counts = stateWith (counted (x .progress) (length t)) (x .head) (x .«provider_type»)
+
+  pub label-fed : pastLabel k at (labelLength x) ≡ true → fed x t ≡ counts (x .properties)
   unfolding fed
-  gathered-fed e = sym (passed _ _ _ _ (sym e) refl)
+  label-fed e = rw e
+
+  module _ (l : pastLabel k at (labelLength x) ≡ false) where
+    pub properties-fed : pastSecurity (x .progress .«security_first») k at ≡ true → fed x t ≡ counts (propertiesThen (x .properties) at k t)
+    unfolding fed
+    properties-fed e = rw (l, e)
+
+    module _ (s : pastSecurity (x .progress .«security_first») k at ≡ false) where
+      pub before-fed : beforeProvider k (x .progress .places .«name_at» .0) (length t) ≡ true → fed x t ≡ counts (x .properties)
+      unfolding fed
+      before-fed e = rw (l, s, e)
+
+      pub gathered-fed : beforeProvider k (x .progress .places .«name_at» .0) (length t) ≡ false → fed x t ≡ gathered x t
+      unfolding fed
+      gathered-fed e = rw (l, s, e)
+
+  -- the count alone changes of what is counted and judged, or all is gathered
+  pub counts-fed : countsOnly x (length t) ≡ true → fed x t .progress ≡ counted (x .progress) (length t)
+  unfolding fed countsOnly securityStays
+  counts-fed e = go (pastLabel k at (labelLength x)) (pastSecurity (x .progress .«security_first») k at) (beforeProvider k (x .progress .places .«name_at» .0) (length t)) e
+    where
+      go : (a b c : Bool) → (a || (b || c)) ≡ true
+          → cond a (counts (x .properties)) (cond b (counts (propertiesThen (x .properties) at k t)) (cond c (counts (x .properties)) (gathered x t))) .progress
+          ≡ counted (x .progress) (length t)
+      go true b c e = refl
+      go false true c e = refl
+      go false false true e = refl
+      go false false false e = absurd (true≢false (sym e))
+
+  pub changes-fed : countsOnly x (length t) ≡ false → fed x t ≡ gathered x t
+  unfolding fed countsOnly securityStays
+  changes-fed e = go (pastLabel k at (labelLength x)) (pastSecurity (x .progress .«security_first») k at) (beforeProvider k (x .progress .places .«name_at» .0) (length t)) e
+    where
+      go : (a b c : Bool) → (a || (b || c)) ≡ false
+          → cond a (counts (x .properties)) (cond b (counts (propertiesThen (x .properties) at k t)) (cond c (counts (x .properties)) (gathered x t)))
+          ≡ gathered x t
+      go true b c e = absurd (true≢false e)
+      go false true c e = absurd (true≢false e)
+      go false false true e = absurd (true≢false e)
+      go false false false e = refl

@@ -6,7 +6,7 @@ use mathlib.Core.List.{List, []}
 use native.Mathlib.Omega.{arith}
 use borrow.Author.Tests.{eqb-false, eqb-true}
 use lib.ListN.{length, getD, take, drop, length-drop}
-use lib.Seq.{drop-drop, getD-drop, getD-take}
+use lib.Seq.{drop-drop}
 use lib.Dec.{eqb}
 use Rattle.octets.specs.Part.{within}
 use Rattle.octets.specs.Text.{breakAt, firstBreak, firstZero, units}
@@ -27,7 +27,7 @@ use Rattle.portions.specs.declared.name.NameProgress.{NameProgress}
 use Rattle.portions.proofs.Laws.Lists.{drop-take}
 use Rattle.portions.proofs.Laws.Name.{judged}
 use Rattle.portions.proofs.Laws.Places.{security-held}
-use Rattle.portions.proofs.Laws.Window.{getD-window}
+use Rattle.portions.proofs.Laws.Window.{getD-window, length-window}
 
 -- no unit, no break
 no-break : breakAt (drop 4 []) ≡ 0
@@ -57,13 +57,12 @@ module _ (s : List ℕ) where
         (omega arith, omega arith)
 
     -- S10 sees the two bytes that are held
-    pub identity-held : identityHead f (take 2 (drop 16 (window 18 s 0))) ≡ identityHead f (identityAt s)
+    pub identity-held : identityHead f (within (window 18 s 0) 16 2) ≡ identityHead f (identityAt s)
     unfolding identityHead securityParts
     identity-held = or-cong (eqb (ST f) 1) λ one.
         let eight = identity-le (ST f) (f .«sender_id_size» .0) (fits .identity) one in
-        let byte : (i : ℕ) → i < 2 → getD (take 2 (drop 16 (window 18 s 0))) i 0 ≡ getD (identityAt s) i 0 = λ i l.
-        getD-take 2 (drop 16 (window 18 s 0)) i 0 l
-        ∙ getD-drop 16 (window 18 s 0) i 0
+        let byte : (i : ℕ) → i < 2 → getD (within (window 18 s 0) 16 2) i 0 ≡ getD (identityAt s) i 0 = λ i l.
+        getD-within (window 18 s 0) 16 2 (omega (arith, length-window 18 s 0)) i l
         ∙ getD-window 18 s 0 (16 + i) (omega arith)
         ∙ ap (λ (k : ℕ). getD s k 0) (omega arith)
         ∙ sym (getD-within s 16 (f .«sender_id_size» .0) (inside .0) i (omega arith)) in

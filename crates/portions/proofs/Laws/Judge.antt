@@ -1,90 +1,103 @@
--- The refusal of what is held, by the header that it is of.
-use Prim.Native.Nat.{ℕ, _+_, _≤_, min}
-use mathlib.Core.Path.{_≡_, refl, ap}
-use mathlib.Core.Bool.{Bool, true, false, cond}
+-- What is judged of the bytes held, with either place, and the answer by it.
+use Prim.Native.Nat.{ℕ, _+_, _≤_, _<_, min}
+use mathlib.Core.Path.{_≡_, refl, sym, ap, _∙_}
+use mathlib.Core.Bool.{Bool, true, false, _&&_, cond, true≢false}
 use mathlib.Core.List.{List}
 use native.Mathlib.Omega.{arith}
-use borrow.Author.Tests.{eq-eqb, ltb-false, ne-eqb}
-use lib.ListN.{take, drop}
-use lib.Dec.{ltb}
-use Rattle.rules.specs.Place.{propertiesRefusal, refusalAt, sectionRefusal, securityPlace}
-use Rattle.rules.specs.Properties.{labelBytes, readProperties}
+use borrow.Author.Tests.{eq-eqb, ne-eqb}
+use lib.Dec.{eqb, ltb}
+use Rattle.rules.specs.Place.{propertiesRefusal, refusalAt, securityPlace}
+use Rattle.rules.specs.Properties.{labelBytes}
 use Rattle.rules.specs.Refusal.{limit, refusal}
-use Rattle.rules.specs.Security.{providerAt, readSecurity, securityLength, securitySteps}
-use Rattle.rules.specs.declared.properties.PropertiesFields.{PropertiesFields}
+use Rattle.rules.specs.Security.{certAt, keyAt, providerAt, readSecurity, securityLength, securitySteps, signatureAt}
+use Rattle.rules.specs.declared.refusal.Refusal.{Refusal}
+use Rattle.rules.specs.declared.section.Summarized.the-variants.{Accepted, Refused}
 use Rattle.rules.specs.declared.security.SecurityFields.{SecurityFields}
-use Rattle.rules.proofs.Laws.Accepted.{first-passed, passed}
-use Rattle.rules.proofs.Laws.Place.{small-header, unclamped}
-use Rattle.reading.specs.Fields.{propertiesRead, securityRead, startRead}
-use Rattle.portions.specs.Finish.{heldJudge, heldLabel, heldNumber}
+use Rattle.rules.proofs.Laws.Accepted.{passed, section-number}
+use Rattle.rules.proofs.Laws.Place.{refused-at, small-header}
+use Rattle.reading.specs.Fields.{propertiesRead, securityRead}
+use Rattle.reading.specs.Held.{heldBase, heldLabel, heldPropertiesNumber, heldSecurityNumber, heldStart, heldSummary}
+use Rattle.reading.proofs.Laws.Held.{start-small}
+use Rattle.portions.specs.Finish.{heldAnswer, heldJudge}
 use Rattle.portions.specs.Name.{nameBreakOf, nameText}
 use Rattle.portions.specs.declared.state.Progress.{Progress}
+use Rattle.portions.specs.declared.state.State.{State}
 
--- what a number of S1 to S11 tells of the header's length
-module _ (n : ℕ) (f : SecurityFields) (identity : List ℕ) (text : Bool) where
-  pub seven-small : readSecurity n f identity text ≡ 7 → securitySteps f ≡ 0 → securityLength f ≤ limit
-  unfolding readSecurity
-  seven-small e = small-header f _ (passed (ltb n 16) 1 (λ q. omega arith) e .1)
+-- a 7 of S11 is of a header within the limit
+seven-small : (n : ℕ) (first : Bool) (head : List ℕ) (text : Bool) → heldSecurityNumber n first head text ≡ 7
+    → securitySteps (securityRead head) ≡ 0 → securityLength (securityRead head) ≤ limit
+unfolding heldSecurityNumber readSecurity
+seven-small n true head text e = small-header (securityRead head) _ (passed (ltb n 16) 1 (λ q. omega arith) e .1)
+seven-small n false head text e = absurd (omega arith)
 
-  pub passed-small : readSecurity n f identity text ≡ 0 → securityLength f ≤ limit
-  unfolding readSecurity
-  passed-small e =
-      let s2 = first-passed (securitySteps f) (passed (ltb n 16) 1 (λ q. omega arith) e .1) in
-      ltb-false limit (securityLength f) (passed (ltb limit (securityLength f)) 8 (λ q. omega arith) (s2 .1) .0)
+-- a SecurityHeader is never empty, and where none stands first none refuses
+behind-header : (first : Bool) (head : List ℕ) → first ≡ true → 0 < heldStart first head
+unfolding heldStart securityLength providerAt certAt signatureAt keyAt
+behind-header true head e = omega arith
+behind-header false head e = absurd (true≢false (sym e))
 
--- where the MessagePropertiesHeader begins
-abbrev pub startHeld : Bool → List ℕ → ℕ
-startHeld first head = cond first (securityLength (securityRead head)) 0
+no-number : (n : ℕ) (first : Bool) (head : List ℕ) (text : Bool) → first ≡ false → heldSecurityNumber n first head text ≡ 0
+unfolding heldSecurityNumber
+no-number n true head text e = absurd (true≢false e)
+no-number n false head text e = refl
 
 module _ (p : Progress) (head properties : List ℕ) where
   abbrev f : SecurityFields
   f = securityRead head
 
-  abbrev h : PropertiesFields
-  h = propertiesRead properties 0
-
-  abbrev at : ℕ
-  at = startHeld (p .«security_first») head
-
-  abbrev label : List ℕ
-  label = heldLabel properties (labelBytes h)
-
   abbrev text : Bool
   text = nameText (f .«provider_info_size» .0) (p .name)
-
-  abbrev steps : ℕ
-  steps = readSecurity (p .received .0) f (take 2 (drop 16 head)) text
 
   abbrev break : ℕ
   break = nameBreakOf (f .«provider_info_size» .0) (p .name)
 
-  seven : heldNumber p head ≡ 7 → securitySteps f ≡ 0 → securityLength f ≤ limit
-  unfolding heldNumber
-  seven e = go (p .«security_first») e
-    where
-      go : (b : Bool) → cond b steps 0 ≡ 7 → securitySteps f ≡ 0 → securityLength f ≤ limit
-      go true e = seven-small (p .received .0) f _ text e
-      go false e = absurd (omega arith)
+  abbrev label : List ℕ
+  label = heldLabel properties (labelBytes (propertiesRead properties 0))
 
-  -- once S1 to S11 have passed, it begins within the limit
-  pub start-held : heldNumber p head ≡ 0 → (startRead (p .«security_first») head ≡ at) × (at ≤ limit)
-  unfolding heldNumber startRead
-  start-held e = go (p .«security_first») e
-    where
-      go : (b : Bool) → cond b steps 0 ≡ 0
-          → (cond b (min (limit + 1) (securityLength f)) 0 ≡ cond b (securityLength f) 0) × (cond b (securityLength f) 0 ≤ limit)
-      go true e = let small = passed-small (p .received .0) f _ text e in (omega arith, small)
-      go false e = (refl, omega arith)
+  abbrev base : Refusal
+  base = heldBase (p .received .0) (p .«security_first») head text properties
 
-  pub judged-security : ¬ (heldNumber p head ≡ 0)
-      → refusal (heldNumber p head) (securityPlace (heldNumber p head) f (min (limit + 1) (providerAt f)) break) ≡ heldJudge p head properties
-  unfolding heldJudge sectionRefusal
-  judged-security some = rw (ne-eqb (heldNumber p head) 0 some) (unclamped (heldNumber p head) f break seven)
+  -- the same step fails, with either place
+  pub held-number : base .number ≡ heldJudge p head properties .number
+  unfolding heldBase heldJudge
+  held-number = sym (section-number (heldSecurityNumber (p .received .0) (p .«security_first») head text) _ _ _ _ _)
 
-  pub judged-properties : heldNumber p head ≡ 0 → (other : ℕ)
-      → refusalAt false f other label (readProperties (p .received .0) at h label) at ≡ heldJudge p head properties
-  unfolding heldJudge sectionRefusal refusalAt
-  judged-properties z other =
-      let n = readProperties (p .received .0) at h label in
-      let near : min (limit + 1) at ≡ at = omega (arith, start-held z .1) in
-      rw (eq-eqb (heldNumber p head) 0 z) (ap (λ (k : ℕ). propertiesRefusal n k label) near)
+  -- the place by the header that was judged
+  held-placed : (r : Refusal) → r ≡ base
+      → refusalAt (p .«security_first») f break label (r .number) (r .place .0) ≡ heldJudge p head properties
+  unfolding heldBase heldJudge
+  held-placed r e =
+      let n = p .received .0 in
+      let first = p .«security_first» in
+      refused-at first (heldSecurityNumber n first head text) f break (heldPropertiesNumber n (heldStart first head) properties)
+      (heldStart first head) (λ at. label) (seven-small n first head text) (start-small n first head text) (behind-header first head)
+      (no-number n first head text) r e
+
+  -- by whether it is the SecurityHeader
+  abbrev securityAt : Refusal → Refusal
+  securityAt r = refusal (r .number) (securityPlace (r .number) f (min (limit + 1) (providerAt f)) break)
+
+  abbrev propertiesAt : Refusal → Refusal
+  propertiesAt r = propertiesRefusal (r .number) (min (limit + 1) (r .place .0)) label
+
+  module _ (r : Refusal) (e : r ≡ base) where
+    pub in-security : (p .«security_first» && eqb (r .place .0) 0) ≡ true → securityAt r ≡ heldJudge p head properties
+    unfolding refusalAt
+    in-security t = ap (λ (b : Bool). cond b (securityAt r) (propertiesAt r)) (sym t) ∙ held-placed r e
+
+    pub in-properties : (p .«security_first» && eqb (r .place .0) 0) ≡ false → propertiesAt r ≡ heldJudge p head properties
+    unfolding refusalAt
+    in-properties t = ap (λ (b : Bool). cond b (securityAt r) (propertiesAt r)) (sym t) ∙ held-placed r e
+
+module _ (x : State) where
+  abbrev judged : Refusal
+  judged = heldJudge (x .progress) (x .head) (x .properties)
+
+  pub held-refused : (r : Refusal) → r ≡ judged → ¬ (judged .number ≡ 0) → Refused r ≡ heldAnswer x
+  unfolding heldAnswer
+  held-refused r e some = rw (ne-eqb (judged .number) 0 some) (ap Refused e)
+
+  pub held-accepted : judged .number ≡ 0
+      → heldAnswer x ≡ Accepted (heldSummary (x .progress .«security_first») (x .head) (x .«provider_type») (x .properties))
+  unfolding heldAnswer
+  held-accepted none = rw (eq-eqb (judged .number) 0 none)

@@ -23,4 +23,4 @@ returns-2 c =
 pub first-break-spec : {M : Type 1} → statement M
 first-break-spec =
     tie.close
-    (tie.spec returns (λ c κs. search needs) (λ c. search needs) (λ c. search needs) (λ c κs. search needs) returns-2)
+    (tie.spec returns (λ c κs. (omega arith, omega arith)) (λ c. search needs) (λ c. search needs) (λ c κs. search needs) returns-2)

@@ -1,7 +1,7 @@
 -- Before the 16 bytes have come, and behind them.
 use borrow.Author.Needs.{needs}
 use Rattle.octets.proofs.Laws.Steps.{steps}
-use Rattle.portions.specs.State.{placesAfter}
+use Rattle.portions.specs.Fed.{placesAfter}
 use Rattle.portions.proofs.portion.places_after.Statement.{statement}
 use Rattle.portions.proofs.portion.places_after.Tie as tie
 

@@ -7,12 +7,11 @@ use Rattle.portions.proofs.state.start.Tie as tie
 
 returns : tie.Need-returns
 unfolding noName
-returns c = started _ _ (c .places-of .ensures)
+returns c = started _ _ (c .places-at-start .ensures)
 
 pub start-spec : {M : Type 1} → statement M
 start-spec =
     tie.close
     (tie.spec
-    (λ c. search needs)
     (λ c κs. search needs)
     returns)

@@ -1,16 +1,15 @@
 -- What a portion answers and leaves, by where its bytes lie.
 use Prim.Native.Nat.{ℕ, _+_, _-_, min}
 use mathlib.Core.Path.{_≡_, refl, sym, ap, _∙_}
-use mathlib.Core.Bool.{Bool, true, false, not, _&&_, _||_, cond}
-use mathlib.Core.List.{List, _∷_}
+use mathlib.Core.Bool.{Bool, true, false}
+use mathlib.Core.List.{List}
 use lib.ListN.{length, getD, set}
 use Rattle.octets.proofs.Laws.Steps.{answers, passed}
 use Rattle.rules.specs.Refusal.{refusal}
 use Rattle.rules.specs.declared.refusal.Refusal.{Refusal}
-use Rattle.portions.specs.Fed.{beforeProvider, counted, countsOnly, fed, gathered, labelLength, pastLabel, pastSecurity, progressThen, propertiesThen, securityStays}
+use Rattle.portions.specs.Fed.{counted, countsOnly, fed, gathered, labelLength, pastLabel, pastSecurity, progressThen, propertiesThen, securityStays}
 use Rattle.portions.specs.Portion.{portionAnswer, portionState}
 use Rattle.portions.specs.State.{reach, stateWith}
-use Rattle.portions.specs.Window.{shown}
 use Rattle.portions.specs.declared.state.Progress.{Progress}
 use Rattle.portions.specs.declared.state.State.{State}
 use Rattle.portions.proofs.Laws.Call.{before-fed, gathered-fed, label-fed, properties-fed, refused-answer, refused-state, taken-answer, taken-state}
@@ -104,7 +103,9 @@ module _ (c head type properties t : List ℕ) where
       behind e =
           let same = stays-past p (length t) e .1 in
           let row = kept c head type t same .0 in
-          still same _ (properties-fed x t inside e ∙ ap (λ (r : List ℕ). stateWith (counted p (length t)) head type (propertiesThen properties (getD r 5 0) k t)) row)
+          still same _
+          (properties-fed x t inside e
+          ∙ ap (λ (r : List ℕ). stateWith (counted p (length t)) head type (propertiesThen properties (getD r 5 0) k t)) row)
 
       goes : countedOnly p (length t) ≡ false → pastSecurity (p .«security_first») k at ≡ false → Held
       unfolding gathered countersOf progressThen countsOnly portionCounters

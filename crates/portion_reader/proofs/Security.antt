@@ -1,10 +1,10 @@
 -- What a portion leaves of what is kept of a SecurityHeader, by where its bytes lie.
 use Prim.Native.Nat.{ℕ, _-_}
-use mathlib.Core.Path.{_≡_, refl, sym, ap, _∙_}
+use mathlib.Core.Path.{_≡_, refl, sym, _∙_}
 use mathlib.Core.Bool.{Bool, true, false, not, _&&_, true≢false}
 use mathlib.Core.List.{List}
 use lib.ListN.{length}
-use Rattle.portions.specs.Fed.{beforeProvider, pastSecurity, progressThen, securityStays}
+use Rattle.portions.specs.Fed.{beforeProvider, pastSecurity, securityStays}
 use Rattle.portions.specs.Window.{shown}
 use Rattle.portions.specs.declared.state.Progress.{Progress}
 use Rattle.portion_reader.specs.Counters.{countersOf, progressOf}

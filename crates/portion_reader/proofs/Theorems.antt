@@ -1,18 +1,17 @@
 -- Each call by whether the state is finished.
 use Prim.Native.Nat.{ℕ, _+_, _-_, min}
 use mathlib.Core.Path.{_≡_, refl, sym, ap, _∙_}
-use mathlib.Core.Bool.{Bool, true, false, not, _&&_, cond, and-eq-true-iff}
+use mathlib.Core.Bool.{Bool, true, false, cond}
 use mathlib.Core.List.{List, [], _∷_}
 use native.Mathlib.Omega.{arith}
-use borrow.Author.Tests.{not-true}
 use lib.ListN.{length, set}
 use Rattle.octets.specs.Octets.{Octets}
 use Rattle.octets.proofs.Laws.Steps.{answers, passed}
 use Rattle.rules.specs.Refusal.{bytes}
 use Rattle.portions.specs.Finish.{finishState, finishedProgress}
 use Rattle.portions.specs.Name.{noName}
-use Rattle.portions.specs.Portion.{portionAnswer, portionState}
-use Rattle.portions.specs.Fed.{counted, countsOnly, fed, gathered, nameThen, placesAfter, progressThen}
+use Rattle.portions.specs.Portion.{portionState}
+use Rattle.portions.specs.Fed.{counted, countsOnly, gathered, nameThen, placesAfter, progressThen}
 use Rattle.portions.specs.State.{nameIn, placesOf, reach, securityIn, stateOf, stateWith}
 use Rattle.portions.specs.Window.{shown, window}
 use Rattle.portions.specs.declared.state.Progress.{Progress}

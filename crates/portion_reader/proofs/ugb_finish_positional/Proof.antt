@@ -1,12 +1,10 @@
 -- The case picks the answer; the counters are closed.
 use denote.Ref.{now}
-use mathlib.Core.Bool.{Bool}
 use mathlib.Core.Path.{_≡_, sym, ap, _∙_}
 use borrow.Author.Needs.{needs}
 use Rattle.octets.proofs.Laws.Steps.{the}
-use Rattle.portions.specs.Finish.{finishAnswer, finishCase}
+use Rattle.portions.specs.Finish.{finishAnswer}
 use Rattle.portions.specs.State.{stateWith}
-use Rattle.portions.specs.declared.finish.FinishCase.{FinishCase}
 use Rattle.portions.specs.declared.state.Progress.{Progress}
 use Rattle.portions.proofs.Laws.Case.{answerOf, case-answer}
 use Rattle.portion_reader.specs.Answer.{summarizedAnswer}

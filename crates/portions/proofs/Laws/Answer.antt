@@ -5,7 +5,7 @@ use mathlib.Core.Bool.{Bool, true, false, cond}
 use mathlib.Core.List.{List}
 use native.Mathlib.Omega.{arith}
 use borrow.Author.Tests.{eqb-false, eqb-true}
-use lib.ListN.{length, getD, take, drop}
+use lib.ListN.{length, getD}
 use lib.Dec.{eqb}
 use Rattle.octets.specs.Number.{le}
 use Rattle.octets.specs.Part.{within}
@@ -13,9 +13,11 @@ use Rattle.octets.proofs.Laws.Number.{le-cong}
 use Rattle.octets.proofs.Laws.Padding.{le-padded}
 use Rattle.rules.specs.Place.{nameBreak, propertiesRefusal, sectionRefusal, securityRefusal}
 use Rattle.rules.specs.Properties.{labelBytes, propertiesLength, propertiesParts, propertiesSteps, readProperties}
-use Rattle.rules.specs.Reading.{fieldsAt, headerAt, identityAt, judge, labelAt, propertiesNumber, providerInfoAt, securityHeader, securityNumber, startAt, summarize, summaryAt}
+use Rattle.rules.specs.Reading.{fieldsAt, headerAt, identityAt, judge, labelAt, propertiesNumber}
+use Rattle.rules.specs.Reading.{providerInfoAt, securityHeader, securityNumber, startAt, summarize, summaryAt}
 use Rattle.rules.specs.Refusal.{limit}
-use Rattle.rules.specs.Security.{ST, identityHead, providerAt, providerText, readSecurity, securityContents, securityFields, securityLength, securityParts, securitySteps}
+use Rattle.rules.specs.Security.{ST, identityHead, providerAt, providerText, readSecurity}
+use Rattle.rules.specs.Security.{securityContents, securityFields, securityLength, securityParts, securitySteps}
 use Rattle.rules.specs.Summary.{labelOf, noSecurity, summaryOf}
 use Rattle.rules.specs.declared.properties.PropertiesFields.{PropertiesFields}
 use Rattle.rules.specs.declared.refusal.Refusal.{Refusal}

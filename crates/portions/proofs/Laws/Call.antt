@@ -49,35 +49,45 @@ module _ (x : State) (t : List ℕ) where
   abbrev at : ℕ
   at = x .progress .places .«properties_at» .0
 
+  abbrev label : Bool
+  label = pastLabel k at (labelLength x)
+
+  abbrev security : Bool
+  security = pastSecurity (x .progress .«security_first») k at
+
+  abbrev before : Bool
+  before = beforeProvider k (x .progress .places .«name_at» .0) (length t)
+
   abbrev counts : List ℕ → State
   counts = stateWith (counted (x .progress) (length t)) (x .head) (x .«provider_type»)
 
-  pub label-fed : pastLabel k at (labelLength x) ≡ true → fed x t ≡ counts (x .properties)
+  abbrev by : Bool → Bool → Bool → State
+  by a b c = cond a (counts (x .properties)) (cond b (counts (propertiesThen (x .properties) at k t)) (cond c (counts (x .properties)) (gathered x t)))
+
+  pub label-fed : label ≡ true → fed x t ≡ counts (x .properties)
   unfolding fed
   label-fed e = rw e
 
-  module _ (l : pastLabel k at (labelLength x) ≡ false) where
-    pub properties-fed : pastSecurity (x .progress .«security_first») k at ≡ true → fed x t ≡ counts (propertiesThen (x .properties) at k t)
+  module _ (l : label ≡ false) where
+    pub properties-fed : security ≡ true → fed x t ≡ counts (propertiesThen (x .properties) at k t)
     unfolding fed
     properties-fed e = rw (l, e)
 
-    module _ (s : pastSecurity (x .progress .«security_first») k at ≡ false) where
-      pub before-fed : beforeProvider k (x .progress .places .«name_at» .0) (length t) ≡ true → fed x t ≡ counts (x .properties)
+    module _ (s : security ≡ false) where
+      pub before-fed : before ≡ true → fed x t ≡ counts (x .properties)
       unfolding fed
       before-fed e = rw (l, s, e)
 
-      pub gathered-fed : beforeProvider k (x .progress .places .«name_at» .0) (length t) ≡ false → fed x t ≡ gathered x t
+      pub gathered-fed : before ≡ false → fed x t ≡ gathered x t
       unfolding fed
       gathered-fed e = rw (l, s, e)
 
   -- the count alone changes of what is counted and judged, or all is gathered
   pub counts-fed : countsOnly x (length t) ≡ true → fed x t .progress ≡ counted (x .progress) (length t)
   unfolding fed countsOnly securityStays
-  counts-fed e = go (pastLabel k at (labelLength x)) (pastSecurity (x .progress .«security_first») k at) (beforeProvider k (x .progress .places .«name_at» .0) (length t)) e
+  counts-fed e = go label security before e
     where
-      go : (a b c : Bool) → (a || (b || c)) ≡ true
-          → cond a (counts (x .properties)) (cond b (counts (propertiesThen (x .properties) at k t)) (cond c (counts (x .properties)) (gathered x t))) .progress
-          ≡ counted (x .progress) (length t)
+      go : (a b c : Bool) → (a || (b || c)) ≡ true → by a b c .progress ≡ counted (x .progress) (length t)
       go true b c e = refl
       go false true c e = refl
       go false false true e = refl
@@ -85,11 +95,9 @@ module _ (x : State) (t : List ℕ) where
 
   pub changes-fed : countsOnly x (length t) ≡ false → fed x t ≡ gathered x t
   unfolding fed countsOnly securityStays
-  changes-fed e = go (pastLabel k at (labelLength x)) (pastSecurity (x .progress .«security_first») k at) (beforeProvider k (x .progress .places .«name_at» .0) (length t)) e
+  changes-fed e = go label security before e
     where
-      go : (a b c : Bool) → (a || (b || c)) ≡ false
-          → cond a (counts (x .properties)) (cond b (counts (propertiesThen (x .properties) at k t)) (cond c (counts (x .properties)) (gathered x t)))
-          ≡ gathered x t
+      go : (a b c : Bool) → (a || (b || c)) ≡ false → by a b c ≡ gathered x t
       go true b c e = absurd (true≢false e)
       go false true c e = absurd (true≢false e)
       go false false true e = absurd (true≢false e)

@@ -15,7 +15,8 @@ use Rattle.octets.proofs.Laws.Part.{getD-within, length-within, within-in, with
 use Rattle.rules.specs.Place.{nameBreak}
 use Rattle.rules.specs.Reading.{identityAt, providerInfoAt}
 use Rattle.rules.specs.Refusal.{limit}
-use Rattle.rules.specs.Security.{ST, certAt, identityHead, keyAt, providerAt, providerText, securityFields, securityLength, securityParts, securitySteps, signatureAt}
+use Rattle.rules.specs.Security.{ST, certAt, identityHead, keyAt, providerAt}
+use Rattle.rules.specs.Security.{providerText, securityFields, securityLength, securityParts, securitySteps, signatureAt}
 use Rattle.rules.specs.declared.security.SecurityFields.{SecurityFields}
 use Rattle.rules.proofs.Laws.Accepted.{SecurityFits, identity-le, security-fits}
 use Rattle.rules.proofs.Laws.AmendedPlaces.{provider-even}

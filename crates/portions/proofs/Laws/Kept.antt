@@ -2,7 +2,7 @@
 use Prim.Native.Nat.{ℕ, _+_, _-_, _≤_, _<_, min}
 use mathlib.Core.Path.{_≡_, refl, sym, ap, _∙_}
 use mathlib.Core.List.{List, [], _++_, append-nil}
-use mathlib.Core.Bool.{Bool, true, false, not, _&&_, _||_, cond, and-eq-true-iff}
+use mathlib.Core.Bool.{Bool, true, false, and-eq-true-iff}
 use native.Mathlib.Omega.{arith}
 use borrow.Author.Tests.{eqb-false, eqb-true, leb-true}
 use lib.ListN.{length, getD, take, drop, length-append, drop-of-length-le, List·getD-append, List·getD-eq-default}
@@ -13,10 +13,9 @@ use Rattle.portions.specs.Name.{named, noName}
 use Rattle.portions.specs.State.{nameIn, placesOf, propertiesIn, reach, securityIn, stateOf, stateWith}
 use Rattle.portions.specs.Window.{window}
 use Rattle.portions.specs.declared.place.Places.{Places}
-use Rattle.portions.specs.declared.state.State.{State}
 use Rattle.portions.proofs.Laws.Gathered.{name-none, part-fed}
 use Rattle.portions.proofs.Laws.Label.{all-yet}
-use Rattle.portions.proofs.Laws.Places.{Behind, InOrder, Near, places-behind, places-near, places-order}
+use Rattle.portions.proofs.Laws.Places.{InOrder, Near, places-behind, places-near, places-order}
 use Rattle.portions.proofs.Laws.Window.{window-same}
 
 -- bytes that came before are the same with a portion behind them, and so are those that come later
@@ -28,14 +27,14 @@ later s t i l =
     List·getD-eq-default s 0 {n = i} (omega arith) ∙ sym (List·getD-eq-default (s ++ t) 0 {n = i} (rw length-append l))
 
 -- where they lie in all that came so far
-abbrev pub placesIn-first : Bool → List ℕ → Places
-placesIn-first first s = placesOf first (window 18 (securityIn first s) 0)
+abbrev pub placesHeld : Bool → List ℕ → Places
+placesHeld first s = placesOf first (window 18 (securityIn first s) 0)
 
 -- head, type and name with a portion behind them
 pub record Kept (first : Bool) (s t : List ℕ) : Type 0 where
   pub head : window 18 (securityIn first s) 0 ≡ window 18 (securityIn first (s ++ t)) 0
-  pub type : let at = placesIn-first first s .«name_at» .0 - 4 in window 4 (securityIn first s) at ≡ window 4 (securityIn first (s ++ t)) at
-  pub name : let q = placesIn-first first s in nameIn q (securityIn first s) ≡ nameIn q (securityIn first (s ++ t))
+  pub type : let at = placesHeld first s .«name_at» .0 - 4 in window 4 (securityIn first s) at ≡ window 4 (securityIn first (s ++ t)) at
+  pub name : let q = placesHeld first s in nameIn q (securityIn first s) ≡ nameIn q (securityIn first (s ++ t))
 
 module _ (s t : List ℕ) where
   abbrev q : Places
@@ -115,18 +114,18 @@ module _ (s t : List ℕ) where
           (all-later known few, none-yet known few)
 
 pub past-security : (first : Bool) (s t : List ℕ)
-    → pastSecurity first (min reach (length s)) (placesIn-first first s .«properties_at» .0) ≡ true → Kept first s t
+    → pastSecurity first (min reach (length s)) (placesHeld first s .«properties_at» .0) ≡ true → Kept first s t
 unfolding pastSecurity
 past-security true s t e = all-came s t (leb-true 4 (min reach (length s) - placesOf true (window 18 s 0) .«properties_at» .0) e)
 past-security false s t e = record { head = refl; type = refl; name = refl }
 
 -- the state of both, once the properties are those of both
-pub kept-state : (first : Bool) (s t w : List ℕ) → Kept first s t → w ≡ propertiesIn (placesIn-first first s .«properties_at» .0) (s ++ t)
+pub kept-state : (first : Bool) (s t w : List ℕ) → Kept first s t → w ≡ propertiesIn (placesHeld first s .«properties_at» .0) (s ++ t)
     → let x = stateOf first s in
     stateWith (counted (x .progress) (length t)) (x .head) (x .«provider_type») w ≡ stateOf first (s ++ t)
 unfolding stateOf counted
 kept-state first s t w kept properties =
-    let q = placesIn-first first s in
+    let q = placesHeld first s in
     let h = securityIn first (s ++ t) in
     (λ i.
     stateWith

@@ -12,7 +12,6 @@ use Rattle.rules.proofs.Laws.Fixed.{properties-same}
 use Rattle.rules.proofs.Laws.Row.{le-one}
 use Rattle.reading.specs.Fields.{propertiesRead}
 use Rattle.portions.specs.State.{labelEnd, propertiesIn}
-use Rattle.portions.specs.Window.{window}
 use Rattle.portions.proofs.Laws.Window.{getD-window, length-window}
 
 module _ (s : List ℕ) (p : ℕ) where

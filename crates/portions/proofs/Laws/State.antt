@@ -2,20 +2,19 @@
 use Prim.Native.Nat.{ℕ, zero, suc, _+_, _*_, _-_, _≤_, min}
 use mathlib.Core.Path.{_≡_, refl, sym, ap, _∙_}
 use mathlib.Core.List.{List, [], _∷_, _++_}
-use mathlib.Core.Bool.{Bool, true, false, not, _||_, cond, true≢false}
+use mathlib.Core.Bool.{Bool, true, false, cond, true≢false}
 use native.Mathlib.Omega.{arith}
 use borrow.Author.Tests.{le-leb, leb-true}
 use lib.ListN.{length, getD, replicate}
-use lib.Dec.{leb}
 use Rattle.rules.specs.Refusal.{bytes, limit}
-use Rattle.portions.specs.Fed.{beforeProvider, counted, fed, gathered, labelLength, pastLabel, pastSecurity, propertiesThen}
+use Rattle.portions.specs.Fed.{beforeProvider, counted, fed, gathered, pastLabel, pastSecurity, propertiesThen}
 use Rattle.portions.specs.Name.{named, noName}
 use Rattle.portions.specs.State.{nameIn, placesOf, propertiesIn, reach, securityIn, stateOf, stateWith}
 use Rattle.portions.specs.Window.{window}
 use Rattle.portions.specs.declared.place.Places.{Places}
 use Rattle.portions.specs.declared.state.State.{State}
 use Rattle.portions.proofs.Laws.Gathered.{gathered-state, name-none}
-use Rattle.portions.proofs.Laws.Kept.{before-provider, kept-state, past-security, placesIn-first}
+use Rattle.portions.proofs.Laws.Kept.{before-provider, kept-state, past-security, placesHeld}
 use Rattle.portions.proofs.Laws.Label.{all-yet, properties-fed, properties-kept}
 use Rattle.portions.proofs.Laws.Places.{places-near}
 
@@ -30,7 +29,7 @@ module _ (first : Bool) (s t : List ℕ) where
   x = stateOf first s
 
   abbrev q : Places
-  q = placesIn-first first s
+  q = placesHeld first s
 
   abbrev k : ℕ
   k = min reach (length s)
@@ -54,7 +53,7 @@ module _ (first : Bool) (s t : List ℕ) where
 -- a SecurityHeader is still to come
 module _ (s t : List ℕ) where
   abbrev p : Places
-  p = placesIn-first true s
+  p = placesHeld true s
 
   before : beforeProvider (min reach (length s)) (p .«name_at» .0) (length t) ≡ true
       → counts true s t (propertiesIn (p .«properties_at» .0) s) ≡ stateOf true (s ++ t)
@@ -121,7 +120,7 @@ unfolding stateOf named
 started first q e =
     let none = no-bytes first in
     let head = sym (ap (λ (l : List ℕ). window 18 l 0) none ∙ window-nil 18 0) in
-    let at = placesIn-first first [] in
+    let at = placesHeld first [] in
     let places = e ∙ ap (placesOf first) head in
     let name = sym (ap (nameIn at) none ∙ name-none at [] (omega arith)) in
     let type = sym (ap (λ (l : List ℕ). window 4 l (at .«name_at» .0 - 4)) none ∙ window-nil 4 (at .«name_at» .0 - 4)) in

@@ -1,7 +1,6 @@
 -- The blocks passed hold none.
 use native.Mathlib.Omega.{arith}
 use borrow.Author.Needs.{needs}
-use Rattle.octets.proofs.Laws.Steps.{the}
 use Rattle.octets.proofs.text.before_zero.Statement.{statement}
 use Rattle.octets.proofs.text.before_zero.Tie as tie
 

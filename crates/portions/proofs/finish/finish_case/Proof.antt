@@ -70,7 +70,8 @@ returns-2 c =
 accepted : (c : tie.Else2) (first : Bool)
     → let x = state (search) in
     x .progress .«security_first» ≡ first
-    → finishCase (x .progress .«security_first») (finishAnswer x) ≡ finishCase first (Accepted (heldSummary first (x .head) (x .«provider_type») (x .properties)))
+    → finishCase (x .progress .«security_first») (finishAnswer x)
+    ≡ finishCase first (Accepted (heldSummary first (x .head) (x .«provider_type») (x .properties)))
 accepted c first e =
     let l : tie.After-held-judge = search in
     let x = state l in

@@ -1,12 +1,10 @@
 -- No unit; or units behind the first zero unit; or units up to it.
-use Prim.Native.Nat.{ℕ, _+_, _*_, _-_, _/_, _≤_, _<_, min}
+use Prim.Native.Nat.{ℕ, _+_, _*_, _-_, _/_, min}
 use denote.Ref.{now}
 use mathlib.Core.Path.{_≡_, sym, ap, ap₂, _∙_}
-use mathlib.Core.Bool.{Bool}
 use native.Mathlib.Omega.{arith}
 use borrow.Author.Needs.{needs}
 use lib.ListN.{length, take}
-use lib.Dec.{ltb}
 use Rattle.octets.specs.Text.{firstZero, units}
 use Rattle.octets.proofs.Laws.Steps.{the}
 use Rattle.octets.proofs.Laws.Text.{length-units}
@@ -41,7 +39,8 @@ more c =
     let a = the tie.Start (search) .args in
     let room = the tie.After-less (search) .less .ensures ∙ ap (λ (k : ℕ). 2 * limit - k) (the tie.After-bytes (search) .bytes .ensures) in
     c .units2 .ensures
-    ∙ ap (λ (k : ℕ). min 4294967295 (k / 2)) (the tie.After-smaller (search) .smaller .ensures ∙ ap₂ min (the tie.After-before-zero (search) .before-zero .ensures .0) room)
+    ∙ ap (λ (k : ℕ). min 4294967295 (k / 2))
+    (the tie.After-smaller (search) .smaller .ensures ∙ ap₂ min (the tie.After-before-zero (search) .before-zero .ensures .0) room)
     ∙ halved (firstZero (units (now (a .part)))) (a .name .units .0)
 
 returns-3 : tie.Need-returns-3

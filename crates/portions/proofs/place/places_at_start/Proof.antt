@@ -1,6 +1,5 @@
 -- By computation: every size is 0.
 use mathlib.Core.Path.{refl}
-use borrow.Author.Needs.{needs}
 use Rattle.octets.specs.Number.{le}
 use Rattle.octets.specs.Padding.{padded, padding}
 use Rattle.octets.specs.Part.{whole}

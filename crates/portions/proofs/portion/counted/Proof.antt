@@ -1,5 +1,4 @@
 -- One number changes.
-use mathlib.Core.Path.{ap}
 use borrow.Author.Needs.{needs}
 use Rattle.octets.proofs.Laws.Steps.{the}
 use Rattle.rules.specs.Refusal.{bytes}

@@ -1,12 +1,12 @@
 -- Each window and the name go on by the portion, where the head then says.
 use Prim.Native.Nat.{ℕ, _-_}
 use denote.Ref.{now}
-use mathlib.Core.Path.{sym, ap, _∙_}
+use mathlib.Core.Path.{ap, _∙_}
 use mathlib.Core.Bool.{false}
 use borrow.Author.Needs.{needs}
 use Rattle.octets.proofs.Laws.Steps.{the}
 use Rattle.rules.specs.Refusal.{bytes}
-use Rattle.portions.specs.Fed.{nameThen, placesAfter, progressThen}
+use Rattle.portions.specs.Fed.{nameThen, progressThen}
 use Rattle.portions.specs.Name.{named}
 use Rattle.portions.specs.Window.{shown}
 use Rattle.portions.specs.declared.place.Places.{Places}

@@ -1,5 +1,5 @@
 -- By what came of the next header, or none stands first.
-use mathlib.Core.Path.{ap, _∙_}
+use mathlib.Core.Path.{ap}
 use borrow.Author.Needs.{needs}
 use lib.Dec.{leb}
 use Rattle.octets.proofs.Laws.Steps.{the}

@@ -68,7 +68,8 @@ returns-2 c =
     let t = portion l in
     let behind = sym (label-told l) ∙ the tie.Then2 (search) .if2 .taken in
     taken x t _ _ _ _ (going l)
-    (taken-state x t (going l) ∙ label-fed x t behind ∙ ap (λ (p : Progress). stateWith p (x .head) (x .«provider_type») (x .properties)) (sym (c .counted .ensures)))
+    (taken-state x t (going l) ∙ label-fed x t behind
+    ∙ ap (λ (p : Progress). stateWith p (x .head) (x .«provider_type») (x .properties)) (sym (c .counted .ensures)))
 
 -- the SecurityHeader is
 returns-3 : tie.Need-returns-3

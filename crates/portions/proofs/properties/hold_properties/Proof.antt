@@ -1,7 +1,6 @@
 -- The window goes on by the portion's front, which ends with the label.
 use Prim.Native.Nat.{ℕ, _+_, _*_, _-_}
 use denote.Ref.{now}
-use mathlib.Core.List.{List}
 use mathlib.Core.Path.{_≡_, ap, _∙_}
 use native.Mathlib.Omega.{arith}
 use borrow.Author.Needs.{needs}

@@ -1,5 +1,5 @@
 -- The label's end against what came of the header.
-use Prim.Native.Nat.{_+_, _*_}
+use Prim.Native.Nat.{_+_}
 use mathlib.Core.Path.{ap₂, ap}
 use borrow.Author.Needs.{needs}
 use lib.Dec.{leb}

@@ -28,8 +28,8 @@ returns-2 c =
     sym (whole-ended (s .args .name) (now (s .args .part)) (s .pre) (omega arith) (the tie.Then2 (search) .if2 .taken))
 
 -- bytes to units, in room for so many
-halved : (zero n : ℕ) → min 4294967295 (min (2 * zero) (2 * limit - 2 * n) / 2) ≡ min zero (limit - n)
-halved zero n = omega arith
+halved : (before n : ℕ) → min 4294967295 (min (2 * before) (2 * limit - 2 * n) / 2) ≡ min before (limit - n)
+halved before n = omega arith
 
 -- the units that count
 more : (c : tie.After-units2)

@@ -375,12 +375,12 @@ static inline size_t ugb_field_words(ugb_field found, char *out, size_t out_leng
 
 /* What is kept of a section that comes in portions, whatever its length. It lies where the caller puts it, but its
  * members are the library's own: only a state that ugb_start, ugb_portion and ugb_finish made answers for a section. It
- * may be copied, to go back to that point: each copy goes on by itself. Nothing of key, signature, certificate,
- * extension and body stays in it, but private bytes do, CorrelationID, ApplicationTag, X bits and the two behind the
- * SecurityHeader's fixed ones: it is not for support mail. */
+ * may be copied, to go back to that point: each copy goes on by itself. Private bytes are among its own, CorrelationID,
+ * ApplicationTag, X bits, the two behind the SecurityHeader's fixed ones, and where that header's sizes go above the
+ * limit whatever came there: it is not for support mail. */
 typedef struct ugb_portions {
     size_t counters[10];      /* what was counted and judged; of the bytes below, those that did not come are 0 */
-    uint8_t head[18];         /* the SecurityHeader's fixed bytes, and the two behind them, which are the identity's */
+    uint8_t head[18];         /* the SecurityHeader's fixed bytes, and the two behind them, the identity's if any */
     uint8_t provider_type[4]; /* the type at the front of the provider info */
     uint8_t properties[556];  /* the MessagePropertiesHeader's fixed bytes, and the label */
 } ugb_portions;

@@ -1,3 +1,4 @@
+#![tactic(auto)]
 // Copies for support staff: a section on standard input, or a day's file of them, and on standard output the same with
 // every private bit zero, as 01 says. What could not be copied is told on standard error.
 mod day;

@@ -1,3 +1,4 @@
+#![tactic(auto)]
 // A day's file in a single call, for C. In an archive of its own, where the listing's reader has this one caller and
 // becomes part of it.
 ghost use Rattle.std.specs.Prelude.{◌≡◌, length};

@@ -1,3 +1,4 @@
+#![tactic(auto)]
 // Reads one section on standard input and prints its summary and its support copy; what is private only where the word
 // `private` asks for it.
 mod field;

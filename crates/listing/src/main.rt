@@ -1,3 +1,4 @@
+#![tactic(auto)]
 // Reads a file of records on standard input and prints a line for each, as 01 says. Files of any length, in bounded memory.
 // Where a read or a write fails, standard error says so and no `end` or `stop` line is printed; the lines of the records
 // before a failed read are.

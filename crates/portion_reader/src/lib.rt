@@ -1,3 +1,4 @@
+#![tactic(auto)]
 // A section in portions, for C. In an archive of its own, where what it shares with the reader has this one caller and
 // becomes part of it. The state is one struct to C, of which each call is lent the members.
 mod counters;

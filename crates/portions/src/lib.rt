@@ -1,3 +1,4 @@
+#![tactic(auto)]
 // Reading a section in portions (C-12): a state of fixed size, started, fed with portions and finished.
 pub mod finish;
 pub mod name;

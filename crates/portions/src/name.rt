@@ -10,7 +10,7 @@ use rules::section::LIMIT;
 
 // How many units came before the first zero unit, whether that came, and a unit's low byte whose high byte has not come.
 #[repr(C)]
-#[derive(Drop)]
+#[derive(Clone, Copy)]
 pub struct NameProgress {
     pub units: Units,
     pub ended: bool,

@@ -11,7 +11,7 @@ use rules::security::security_length;
 // Where the provider name begins, behind its 4-byte type, how long it is, and where the MessagePropertiesHeader begins.
 // What lies further than one byte above the limit is taken to lie there.
 #[repr(C)]
-#[derive(Drop)]
+#[derive(Clone, Copy)]
 pub struct Places {
     pub name_at: Bytes,
     pub name_size: Bytes,

@@ -11,7 +11,7 @@ use rules::refusal::Refusal;
 
 // What is counted and judged. (By itself, so that a portion moves no more than this: the bytes are lent.)
 #[repr(C)]
-#[derive(Drop)]
+#[derive(Clone, Copy)]
 pub struct Progress {
     pub security_first: bool,
     pub finished: bool,

@@ -8,7 +8,7 @@ use crate::suffix::{
 };
 
 #[repr(C)]
-#[derive(Drop)]
+#[derive(Clone, Copy)]
 pub struct QueueFormat {
     pub kind: u8,
     pub suffix_and_flags: u8,

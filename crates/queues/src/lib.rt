@@ -1,3 +1,4 @@
+#![tactic(auto)]
 // Queue formats: reading and writing the image of a QUEUE_FORMAT (004).
 pub mod format;
 pub mod image;

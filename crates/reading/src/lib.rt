@@ -1,3 +1,4 @@
+#![tactic(auto)]
 // Reading a section: the steps in 01's order, the summary and the full reading, and what a caller does with them.
 mod field;
 pub mod held;

@@ -1,3 +1,4 @@
+#![tactic(auto)]
 // The listing program's file: a record at a time, and the lines that are printed for it.
 pub mod append;
 mod decimal;

@@ -5,7 +5,7 @@ ghost use Rattle.requests.specs.Request.{is_given, value_or};
 use octets::count::Bytes;
 
 // A number that may be absent, so that absent and 0 stay apart.
-#[derive(Drop)]
+#[derive(Clone, Copy)]
 pub enum Number {
     Absent,
     Given(u32),
@@ -34,21 +34,21 @@ impl Number {
 
 // Whether a CorrelationID is given. Its 20 bytes are lent beside the request: an enum that holds an array is not
 // covered.
-#[derive(Drop)]
+#[derive(Clone, Copy)]
 pub enum Correlation {
     Absent,
     Given,
 }
 
 // Whether a body is given, and then the bytes to allocate for it (ulAllocBodyBufferInBytes).
-#[derive(Drop)]
+#[derive(Clone, Copy)]
 pub enum Body {
     Absent,
     Given(Bytes),
 }
 
 // The numbers are as wide as 002's widest, so that a number too large for its field is refused and not cut.
-#[derive(Drop)]
+#[derive(Clone, Copy)]
 pub struct Request {
     pub priority: Number,
     pub trace: Number,

@@ -1,3 +1,4 @@
+#![tactic(auto)]
 // 01's rules on values, shared by reading and writing: layouts, steps and verdicts. Their definitions are in specs/.
 pub mod class;
 pub mod layout;

@@ -15,7 +15,7 @@ pub const LABEL_UNITS: u32 = 250;
 
 // The judged fields of the 56 fixed bytes. Of Flags the low four bits: the four X bits are private.
 #[repr(C)]
-#[derive(Drop)]
+#[derive(Clone, Copy)]
 pub struct PropertiesFields {
     pub flags: u8,
     pub label_length: Units,

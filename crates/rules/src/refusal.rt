@@ -2,7 +2,7 @@
 use octets::count::Bytes;
 
 #[repr(C)]
-#[derive(Drop)]
+#[derive(Clone, Copy)]
 pub struct Refusal {
     pub number: u32,
     pub place: Bytes,

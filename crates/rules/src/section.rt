@@ -16,7 +16,7 @@ pub type CorrelationId = [u8; 20];
 
 // Where a part lies, in bytes, counted from the section's first byte.
 #[repr(C)]
-#[derive(Drop)]
+#[derive(Clone, Copy)]
 pub struct Part {
     pub start: Bytes,
     pub length: Bytes,

@@ -25,7 +25,7 @@ pub const AS: u32 = 0x0100;
 // The judged fields of the 16 fixed bytes. Of Flags the bits 0 to 11: the four X bits are private.
 // (32 bits wide, so that no gap in the struct is copied piecemeal.)
 #[repr(C)]
-#[derive(Drop)]
+#[derive(Clone, Copy)]
 pub struct SecurityFields {
     pub flags: u32,
     pub sender_id_size: Bytes,
@@ -37,7 +37,7 @@ pub struct SecurityFields {
 
 // The five parts, without their padding, and the header's length with it.
 #[repr(C)]
-#[derive(Drop)]
+#[derive(Clone, Copy)]
 pub struct SecurityParts {
     pub sender_id: Part,
     pub encryption_key: Part,
@@ -49,7 +49,7 @@ pub struct SecurityParts {
 
 // What reading finds in a SecurityHeader. The two SID bytes are those of the identity for ST 1, else 0.
 #[repr(C)]
-#[derive(Drop)]
+#[derive(Clone, Copy)]
 pub struct SecurityHeader {
     pub fields: SecurityFields,
     pub parts: SecurityParts,

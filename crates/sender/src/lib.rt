@@ -1,3 +1,4 @@
+#![tactic(auto)]
 // A send request written as a section, for C. The sender is compiled by itself: the section writer and a request's steps
 // then have one caller in it and one in `ugbariteyo`, and become part of each.
 ghost use Rattle.std.specs.Prelude.{◌≡◌};

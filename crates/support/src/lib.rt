@@ -1,3 +1,4 @@
+#![tactic(auto)]
 // The support copy: the section with every private bit zero, into a lent output; and whether a proposed copy is it.
 pub mod copy;
 mod header;

@@ -8,14 +8,14 @@ use rules::section::CorrelationId;
 
 // A number that may be absent, so that absent and 0 stay apart.
 #[repr(C)]
-#[derive(Drop)]
+#[derive(Clone, Copy)]
 pub struct UgbNumber {
     pub given: bool,
     pub number: u32,
 }
 
 #[repr(C)]
-#[derive(Drop)]
+#[derive(Clone, Copy)]
 pub struct UgbRequest {
     pub priority: UgbNumber,
     pub trace: UgbNumber,

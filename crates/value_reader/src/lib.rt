@@ -1,3 +1,4 @@
+#![tactic(auto)]
 // A body as one number, read and written, for C. In an archive of its own, where the reader has this one caller and
 // becomes part of it. No enum and no NaN passes: a value is its BodyType and its bits.
 ghost use Rattle.std.specs.Prelude.{◌≡◌};

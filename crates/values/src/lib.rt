@@ -1,3 +1,4 @@
+#![tactic(auto)]
 // Body values by type (C-16): a body that is a single number, read and written.
 mod bits;
 pub mod read;

@@ -6,20 +6,20 @@ use crate::bits::{binary32_bits, binary32_of, binary64_bits, binary64_of, signed
 use octets::count::Bytes;
 
 // A 32-bit float: the number, or a NaN's bit pattern, since the language's own float has one NaN and keeps no payload.
-#[derive(Drop)]
+#[derive(Clone, Copy)]
 pub enum Binary32 {
     Number(f32),
     Nan(u32),
 }
 
 // A 64-bit float, likewise.
-#[derive(Drop)]
+#[derive(Clone, Copy)]
 pub enum Binary64 {
     Number(f64),
     Nan(u64),
 }
 
-#[derive(Drop)]
+#[derive(Clone, Copy)]
 pub enum BodyValue {
     I32(i32),
     U32(u32),

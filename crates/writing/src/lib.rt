@@ -1,3 +1,4 @@
+#![tactic(auto)]
 // Writing a section, part by part, into a lent output.
 mod field;
 mod part;

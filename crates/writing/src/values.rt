@@ -4,7 +4,7 @@ use rules::section::CorrelationId;
 
 // The values of a full reading. The sizes come from the parts.
 #[repr(C)]
-#[derive(Drop)]
+#[derive(Clone, Copy)]
 pub struct SectionValues {
     pub security_first: bool,
     pub security_flags: u16,

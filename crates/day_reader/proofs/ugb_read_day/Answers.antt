@@ -1,0 +1,10 @@
+-- The answer is handed on.
+use mathlib.Core.Path.{ap, ◌∙◌}
+use Rattle.day_reader.specs.Answer.{answered}
+use borrow.Author.Rules.{rules}
+use Rattle.octets.proofs.Laws.Steps.{the}
+use Rattle.day_reader.proofs.ugb_read_day.Goals as goal
+
+pub returns : goal.returns
+returns c =
+    let w = c.read_day.ensures in record { value = c.day_answer.ensures ∙ ap answered w.value; table_after = w.table_after }

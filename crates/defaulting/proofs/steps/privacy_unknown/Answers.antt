@@ -1,0 +1,8 @@
+-- The test is the definition's.
+use borrow.Author.Rules.{rules}
+use Rattle.octets.proofs.Laws.Steps.{told}
+use Rattle.defaulting.proofs.steps.privacy_unknown.Goals as goal
+
+pub returns : goal.returns
+returns c =
+    search told

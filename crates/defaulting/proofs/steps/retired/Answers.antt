@@ -1,0 +1,16 @@
+-- Each test is what its function promises.
+use mathlib.Core.Path.{refl}
+use borrow.Author.Rules.{rules}
+use Rattle.octets.proofs.Laws.Steps.{the}
+use Rattle.requests.specs.Steps.{retired_request}
+use Rattle.defaulting.proofs.steps.retired.Goals as goal
+
+pub returns : goal.returns
+unfolding retired_request
+returns c =
+    rw (
+      ← c.privacy_level-weak.ensures,
+      ← c.hash_algorithm.ensures,
+      c.is_retired_hash.ensures,
+    )
+    refl

@@ -1,0 +1,16 @@
+-- The loop's invariant: `i` zeros are written, and the output is as long as it was. The measure is what is left of it.
+use Prim.Native.Nat.{ℕ, ◌-◌, ◌≤◌}
+use mathlib.Core.Path.{◌≡◌, refl, ap, ◌∙◌}
+use mathlib.Core.List.{[]}
+use native.Mathlib.Omega.{arith}
+use lib.ListN.{length, replicate, length-replicate, length-set}
+use Rattle.octets.specs.Over.{over}
+use Rattle.octets.proofs.Laws.Over.{over_none, over-start, over-whole, over_zeros}
+use Rattle.octets.proofs.Laws.Steps.{the}
+use Rattle.octets.proofs.over.zero.Given as goal
+
+abbrev pub invariant-loop-i : goal.invariant-loop-i
+invariant-loop-i l = (l.i ≤ length l.initial.out) × (length l.out ≡ length l.initial.out) × (l.out ≡ over (replicate l.i 0) l.initial.out)
+
+abbrev pub decreases-loop-i : goal.decreases-loop-i
+decreases-loop-i l = length l.initial.out - l.i

@@ -1,0 +1,14 @@
+-- The label follows the fixed bytes.
+use Prim.Native.Nat.{ℕ, ◌+◌}
+use mathlib.Core.Path.{ap, ◌∙◌}
+use Rattle.octets.specs.Part.{within}
+use Rattle.octets.proofs.Laws.Steps.{the}
+use Rattle.rules.specs.Properties.{properties_parts}
+use borrow.Author.Rules.{rules}
+use Rattle.reading.proofs.properties.label_at.Goals as goal
+
+pub returns : goal.returns
+unfolding properties_parts
+returns c =
+    let a = c.args in
+    c.within.ensures ∙ ap (within a.s.now (a.at.0 + 56)) c.bytes.ensures

@@ -1,0 +1,18 @@
+-- The bytes of the length as it is cut are those of the length.
+use Prim.Native.Nat.{ℕ}
+use mathlib.Core.Bool.{cond}
+use mathlib.Core.List.{List, ◌∷◌}
+use mathlib.Core.Path.{ap}
+use borrow.Author.Rules.{rules}
+use Rattle.octets.specs.Number.{to_le}
+use Rattle.octets.proofs.Laws.Number.{to_le-mod}
+use Rattle.octets.proofs.Laws.Steps.{the}
+use Rattle.records.specs.Head.{head_bytes}
+use Rattle.records.proofs.head.head_bytes.Goals as goal
+
+pub returns : goal.returns
+unfolding head_bytes to_le
+returns c =
+    let h = c.args.head in
+    rw (c.u32_bytes-length.ensures, c.security_byte-first.ensures)
+    (ap (λ (bytes : List ℕ). 0x57 ∷ 0x52 ∷ cond h.security_first 1 0 ∷ 0 ∷ bytes) (to_le-mod 4 h.length.0))

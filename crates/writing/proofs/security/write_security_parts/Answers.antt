@@ -1,0 +1,74 @@
+-- Each padded part is written where the one before it ends.
+use Prim.Native.Nat.{ℕ, ◌+◌, ◌-◌, ◌^◌, ◌≤◌, ◌<◌}
+use mathlib.Core.Path.{◌≡◌, sym, ap, ◌∙◌}
+use mathlib.Core.List.{List, ◌++◌}
+use native.Mathlib.Omega.{arith}
+use lib.ListN.{length, take, drop}
+use Rattle.octets.specs.Padding.{padded}
+use Rattle.octets.specs.Over.{over}
+use Rattle.octets.proofs.Laws.Over.{Written, written-first, written-rest}
+use Rattle.octets.proofs.Laws.Steps.{the}
+use Rattle.writing.specs.Writing.{padded_part, security_parts_bytes}
+use Rattle.writing.proofs.Laws.Header.{five}
+use Rattle.writing.proofs.Laws.Row.{length-padded_part}
+use borrow.Author.Rules.{rules}
+use Rattle.writing.proofs.security.write_security_parts.Goals as goal
+use Rattle.writing.proofs.security.write_security_parts.Goals.{After-write_padded_part, After-write_padded_part-3, After-write_padded_part-key_at, Start}
+
+-- where the function begins
+abbrev begun : After-write_padded_part → Start
+begun c = the Start (search)
+
+short : (c : After-write_padded_part-key_at) → length c.args.out.now < 2 ^ 64
+short c = omega arith
+
+-- the next padded part, written to a lent rest of the output
+part-next : {p out now : List ℕ} {end : ℕ} (at : ℕ) (part later : List ℕ) → Written p out end now → at ≡ end → at ≤ length out
+    → later ≡ over (padded_part part) (take (length now - at) (drop at now))
+    → Written (p ++ padded_part part) out (at + padded 4 (length part)) (take at now ++ (later ++ drop (length now - at) (drop at now)))
+part-next at part later w a h e = written-rest at (padded 4 (length part)) (padded_part part) later w a (length-padded_part part) h e
+
+-- how far the first four parts reach
+reach : (c : After-write_padded_part-3)
+    → let a = (begun c.After-write_padded_part).args in
+    (c.write_padded_part-key_at.result.0 + c.write_padded_part.result.0 + c.write_padded_part-2.result.0
+    + c.write_padded_part-3.result.0)
+    + padded 4 (length a.provider-info.now)
+    ≤ length a.out.now
+reach c =
+    omega (arith, (begun c.After-write_padded_part).requires)
+
+pub returns : goal.returns
+unfolding security_parts_bytes
+returns c =
+    let a = (begun (goal.at.returns c).After-write_padded_part).args in
+    let h = (begun (goal.at.returns c).After-write_padded_part).requires in
+    let identity = a.sender-id.now in
+    let key = a.encryption-key.now in
+    let signature = a.signature.now in
+    let cert = a.sender-cert.now in
+    let provider = a.provider-info.now in
+    let c1 = c.write_padded_part-key_at in
+    let c2 = c.write_padded_part in
+    let c3 = c.write_padded_part-2 in
+    let c4 = c.write_padded_part-3 in
+    let c5 = c.write_padded_part-4 in
+    let r1 = c1.result.0 in
+    let r2 = c2.result.0 in
+    let r3 = c3.result.0 in
+    let r4 = c4.result.0 in
+    let e1 : r1 ≡ padded 4 (length identity) = c1.ensures.result_value in
+    let e2 : r2 ≡ padded 4 (length key) = c2.ensures.result_value in
+    let e3 : r3 ≡ padded 4 (length signature) = c3.ensures.result_value in
+    let e4 : r4 ≡ padded 4 (length cert) = c4.ensures.result_value in
+    let w1 = written-first c1.ensures.out_after in
+    let w2 = part-next r1 key c2.new.1.0 w1 (e1 ∙ sym (length-padded_part identity)) (omega (arith, h)) c2.ensures.out_after in
+    let w3 = part-next (r1 + r2) signature c3.new.1.0 w2 (omega arith) (omega (arith, h)) c3.ensures.out_after in
+    let w4 = part-next (r1 + r2 + r3) cert c4.new.1.0 w3 (omega arith) (omega (arith, h)) c4.ensures.out_after in
+    let w5 = part-next (r1 + r2 + r3 + r4) provider c5.new.1.0 w4 (omega arith) (omega (arith, h)) c5.ensures.out_after in
+    let row = five (padded_part identity) (padded_part key) (padded_part signature) (padded_part cert) (padded_part provider) in
+    w5.bytes ∙ ap (λ (bs : List ℕ). over bs a.out.now) row
+
+pub overflow_add-provider_at : goal.overflow_add-provider_at
+overflow_add-provider_at c =
+    omega (arith, reach (goal.at.overflow_add-provider_at c).After-write_padded_part-3, short (goal.at.overflow_add-provider_at c).After-write_padded_part-key_at)

@@ -21,7 +21,7 @@ returns-then-past_security c =
     let a = c.args in
     let past = sym c.past_security.ensures ∙ c.if-past_security.true in
     let e = stays-past (progress_of a.counters.now) (length a.bytes.now) past in
-    (sym e.0, kept a.counters.now a.head.now a.provider-type.now a.bytes.now e.1)
+    (sym e.0, kept a.counters.now a.head.now a.provider_type.now a.bytes.now e.1)
 
 pub returns-then-before_provider : goal.returns-then-before_provider
 unfolding progress_of
@@ -30,7 +30,7 @@ returns-then-before_provider c =
     let past = sym c.past_security.ensures ∙ c.if-past_security.false in
     let before = sym c.before_provider.ensures ∙ c.if-before_provider.true in
     let e = stays-before (progress_of a.counters.now) (length a.bytes.now) past before in
-    (sym e.0, kept a.counters.now a.head.now a.provider-type.now a.bytes.now e.1)
+    (sym e.0, kept a.counters.now a.head.now a.provider_type.now a.bytes.now e.1)
 
 -- the tests, which are far behind the return
 tests : (c : Else-before_provider)
@@ -58,6 +58,6 @@ returns c =
     let g = c.gather_security.ensures in
     let head = g.head_after.0 ∙ ap (λ (p : Progress). shown a.head.now 0 p.received.0 t) told in
     let progress = g.value ∙ ap₂ (λ (p : Progress) (h : List ℕ). progress_then p h t) told head in
-    let type = g.head_after.1 ∙ (λ i. shown a.provider-type.now ((progress i).places.name_at.0 - 4) (told i).received.0 t) in
-    let to = changed a.counters.now a.head.now a.provider-type.now t e.1 in
+    let type = g.head_after.1 ∙ (λ i. shown a.provider_type.now ((progress i).places.name_at.0 - 4) (told i).received.0 t) in
+    let to = changed a.counters.now a.head.now a.provider_type.now t e.1 in
     (sym e.0, (c.counters_of.ensures ∙ ap counters_of progress ∙ to.0, (head ∙ to.1.0, type ∙ to.1.1)))

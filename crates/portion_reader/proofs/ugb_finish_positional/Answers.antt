@@ -15,12 +15,12 @@ use Rattle.portion_reader.proofs.ugb_finish_positional.Goals.{After-finish_case}
 answer : (c : After-finish_case)
     → let a = c.args in
     answer_of c.finish_case.result
-    ≡ finish_answer (state_with (progress_of a.counters.now) a.head.now a.provider-type.now a.properties.now)
+    ≡ finish_answer (state_with (progress_of a.counters.now) a.head.now a.provider_type.now a.properties.now)
 answer c =
     let a = c.args in
     ap answer_of c.finish_case.ensures
     ∙ case-answer _ _
-    ∙ ap (λ (p : Progress). finish_answer (state_with p a.head.now a.provider-type.now a.properties.now))
+    ∙ ap (λ (p : Progress). finish_answer (state_with p a.head.now a.provider_type.now a.properties.now))
     c.progress_of-progress.ensures
 
 pub returns-in-WithSecurity : goal.returns-in-WithSecurity

@@ -26,7 +26,7 @@ going row none = rw (eq-eqb (get_or row 1 0) 0 none)
 pub returns-then-counters-ne0 : goal.returns-then-counters-ne0
 returns-then-counters-ne0 c =
     let a = c.args in
-    let l = refused a.counters.now a.head.now a.provider-type.now a.properties.now a.bytes.now
+    let l = refused a.counters.now a.head.now a.provider_type.now a.properties.now a.bytes.now
     (closed a.counters.now c.if-counters-ne0.true) in
     (c.after_the_finish.ensures ∙ l.0, l.1)
 
@@ -58,7 +58,7 @@ unfolding entry progress_of
 returns-then-past_label c =
     let a = (entry (goal.at.returns-then-past_label c).After-past_label).args in
     let row = a.counters.now in
-    let l = label-left row a.head.now a.provider-type.now a.properties.now a.bytes.now (running (goal.at.returns-then-past_label c).After-past_label)
+    let l = label-left row a.head.now a.provider_type.now a.properties.now a.bytes.now (running (goal.at.returns-then-past_label c).After-past_label)
     (sym (label-told (goal.at.returns-then-past_label c).After-past_label) ∙ c.if-past_label.true) in
     (c.no_refusal.ensures ∙ l.0, (ap (set row 2) (received (goal.at.returns-then-past_label c).After-past_label) ∙ l.1.0, l.1.1))
 
@@ -67,7 +67,7 @@ unfolding entry progress_of
 returns-then-before_properties c =
     let a = (entry (goal.at.returns-then-before_properties c).After-past_label).args in
     let b = c.before_properties.ensures in
-    let l = counted-left a.counters.now a.head.now a.provider-type.now a.properties.now a.bytes.now (running (goal.at.returns-then-before_properties c).After-past_label)
+    let l = counted-left a.counters.now a.head.now a.provider_type.now a.properties.now a.bytes.now (running (goal.at.returns-then-before_properties c).After-past_label)
     (sym (label-told (goal.at.returns-then-before_properties c).After-past_label) ∙ c.if-past_label.false) (sym b.value ∙ c.if-before_properties.true) in (
       c.no_refusal-then-before_properties.ensures ∙ l.0,
       ((λ i. set (b.counters_after.0 i) 2 (received (goal.at.returns-then-before_properties c).After-past_label i)) ∙ l.1.0, (b.counters_after.1.0 ∙ l.1.1.0, (b.counters_after.1.1 ∙ l.1.1.1.0, l.1.1.1.1))),
@@ -79,7 +79,7 @@ returns c =
     let a = (entry (goal.at.returns c).After-past_label).args in
     let row = a.counters.now in
     let b = c.before_properties.ensures in
-    let l = held-left row a.head.now a.provider-type.now a.properties.now a.bytes.now (running (goal.at.returns c).After-past_label)
+    let l = held-left row a.head.now a.provider_type.now a.properties.now a.bytes.now (running (goal.at.returns c).After-past_label)
     (sym (label-told (goal.at.returns c).After-past_label) ∙ c.if-past_label.false) (sym b.value ∙ c.if-before_properties.false) in
     let held = c.hold_properties.ensures
     ∙ ap (λ (r : List ℕ). properties_then a.properties.now (get_or r 5 0) (get_or row 2 0) a.bytes.now) b.counters_after.0 in (

@@ -16,7 +16,7 @@ returns c =
     let room = c.head_room-at in
     let copied = c.support_copy in
     let lent = lent-behind out room.result.0 room.ensures in record {
-      value = copied.ensures.value ∙ ap (support_answer a.security-first a.section.now) lent;
+      value = copied.ensures.value ∙ ap (support_answer a.security_first a.section.now) lent;
       out_after = put-behind out room.result.0 room.ensures copied.new.1.1.0
-          ∙ ap (λ (x : List ℕ). take 8 out ++ x) (copied.ensures.out_after ∙ ap (support_bytes a.security-first a.section.now) lent);
+          ∙ ap (λ (x : List ℕ). take 8 out ++ x) (copied.ensures.out_after ∙ ap (support_bytes a.security_first a.section.now) lent);
     }

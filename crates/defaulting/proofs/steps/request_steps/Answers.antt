@@ -18,7 +18,7 @@ ruleset calls = (passed, answers, call-true, call-false)
 asked : Start → SendRequest
 asked c =
     let a = c.args in
-    held_request a.request a.title a.sender-id a.encryption-key a.signature a.sender-cert a.provider-name
+    held_request a.request a.title a.sender_id a.encryption_key a.signature a.sender_cert a.provider_name
     a.extension a.body
 
 -- the first k steps are passed: the answer is that of the others

@@ -14,4 +14,4 @@ returns c =
     let a = c.args in
     let cut = c.kept_bytes.ensures in
     c.part_too_large.ensures
-    ∙ ap (λ (n : ℕ). part_too_large (length a.encryption-key.now) n (length a.sender-cert.now)) cut
+    ∙ ap (λ (n : ℕ). part_too_large (length a.encryption_key.now) n (length a.sender_cert.now)) cut

@@ -15,7 +15,7 @@ use Rattle.fields.proofs.place.field_at.Goals.{After-behind_security-start}
 -- where the MessagePropertiesHeader begins
 start : (c : After-behind_security-start)
     → let a = c.args in
-    c.behind_security-start.result.0 ≡ behind_security a.security-first a.s.now
+    c.behind_security-start.result.0 ≡ behind_security a.security_first a.s.now
 start c = c.behind_security-start.ensures
 
 pub returns-then-place-start : goal.returns-then-place-start
@@ -24,7 +24,7 @@ returns-then-place-start c =
     let a = c.args in
     let s = a.s.now in
     let place = a.place.0 in
-    let p = behind_security a.security-first s in
+    let p = behind_security a.security_first s in
     let fields = c.security_fields.ensures.value in
     let widths = c.security_widths-widths.ensures ∙ ap security_widths fields in
     rw (lt-leb (length s) place (omega arith), lt-ltb place p (omega (arith, start (goal.at.returns-then-place-start c).After-behind_security-start)))
@@ -36,7 +36,7 @@ returns c =
     let a = c.args in
     let s = a.s.now in
     let place = a.place.0 in
-    let p = behind_security a.security-first s in
+    let p = behind_security a.security_first s in
     let fields = c.properties_fields.ensures.value ∙ ap (properties_read s) (start (goal.at.returns c).After-behind_security-start) in
     let widths = c.properties_widths-widths.ensures ∙ ap properties_widths fields in
     rw (lt-leb (length s) place (omega arith), le-ltb place p (omega (arith, start (goal.at.returns c).After-behind_security-start)))

@@ -22,7 +22,7 @@ pub returns-then-progress : goal.returns-then-progress
 unfolding finish_case
 returns-then-progress c =
     let a = c.args in
-    let x = state_with a.progress a.head.now a.provider-type.now a.properties.now in
+    let x = state_with a.progress a.head.now a.provider_type.now a.properties.now in
     let again = ap Refused c.after_the_finish.ensures ∙ sym (refused-again x c.if-progress.true) in
     ap (finish_case a.progress.security_first) again
 
@@ -30,7 +30,7 @@ returns-then-progress c =
 state : After-held_judge-judged → State
 state c =
     let a = c.args in
-    state_with a.progress a.head.now a.provider-type.now a.properties.now
+    state_with a.progress a.head.now a.provider_type.now a.properties.now
 
 judged : (c : After-held_judge-judged)
     → let x = state c in

@@ -22,7 +22,7 @@ returns c =
     let name = c.with_bytes-name.ensures
     ∙ ap (named p.name) (c.name_then.ensures ∙ ap (λ (q : Places). name_then q k t) places) in
     let type = c.show-2.ensures
-    ∙ ap (λ (n : ℕ). shown a.provider-type.now n k t) c.less-type_at.ensures in (
+    ∙ ap (λ (n : ℕ). shown a.provider_type.now n k t) c.less-type_at.ensures in (
       λ i. record {
         security_first = p.security_first;
         finished = false;

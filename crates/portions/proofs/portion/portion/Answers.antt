@@ -31,7 +31,7 @@ taken x t p head type properties going e =
 pub returns-then-progress : goal.returns-then-progress
 returns-then-progress c =
     let a = c.args in
-    let x = state_with a.progress a.head.now a.provider-type.now a.properties.now in
+    let x = state_with a.progress a.head.now a.provider_type.now a.properties.now in
     let closed = c.if-progress.true in
     let stays = sym (refused-state x a.bytes.now closed) in (
       ap Refused c.after_the_finish.ensures ∙ sym (refused-answer x a.bytes.now closed),
@@ -42,7 +42,7 @@ returns-then-progress c =
 state : After-past_label → State
 state c =
     let a = c.args in
-    state_with a.progress a.head.now a.provider-type.now a.properties.now
+    state_with a.progress a.head.now a.provider_type.now a.properties.now
 
 portion : After-past_label → List ℕ
 portion c = c.args.bytes.now

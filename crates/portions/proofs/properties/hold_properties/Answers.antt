@@ -14,7 +14,7 @@ unfolding properties_then
 returns c =
     let a = c.args in
     let w = a.properties.now in
-    let at = a.properties-at.0 in
+    let at = a.properties_at.0 in
     let k = a.received.0 in
     let t = a.bytes.now in
     let units = c.label_length_then-units.ensures in

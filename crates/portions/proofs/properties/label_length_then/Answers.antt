@@ -13,7 +13,7 @@ returns-then-have-gt1 c =
     let a = c.args in
     let have = c.less-have.ensures in
     c.units_of-held.ensures
-    ∙ sym (shown-old a.properties.now a.properties-at.0 a.received.0 a.bytes.now 1 c.requires (omega (arith, have)))
+    ∙ sym (shown-old a.properties.now a.properties_at.0 a.received.0 a.bytes.now 1 c.requires (omega (arith, have)))
 
 pub returns-then-behind-have : goal.returns-then-behind-have
 returns-then-behind-have c =
@@ -22,7 +22,7 @@ returns-then-behind-have c =
     let skip = c.less-skip.ensures in
     let behind = c.less-behind.ensures in
     c.units_of-held.ensures
-    ∙ sym (shown-not-yet a.properties.now a.properties-at.0 a.received.0 a.bytes.now 1 c.requires
+    ∙ sym (shown-not-yet a.properties.now a.properties_at.0 a.received.0 a.bytes.now 1 c.requires
     (omega (arith, have)) (omega (arith, have, skip, behind)))
 
 pub returns : goal.returns
@@ -31,9 +31,9 @@ returns c =
     let have = c.less-have.ensures in
     let skip = c.less-skip.ensures in
     let behind = c.less-behind.ensures in
-    let i : c.less-skip.result.0 + (1 - c.less-have.result.0) ≡ a.properties-at.0 + 1 - a.received.0 =
+    let i : c.less-skip.result.0 + (1 - c.less-have.result.0) ≡ a.properties_at.0 + 1 - a.received.0 =
     omega (arith, have, skip) in
     c.units_of.ensures
     ∙ ap (λ (i : ℕ). get_or a.bytes.now i 0) i
-    ∙ sym (shown-new a.properties.now a.properties-at.0 a.received.0 a.bytes.now 1 c.requires
+    ∙ sym (shown-new a.properties.now a.properties_at.0 a.received.0 a.bytes.now 1 c.requires
     (omega (arith, have)) (omega (arith, have, skip, behind)))

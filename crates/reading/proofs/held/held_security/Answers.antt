@@ -27,7 +27,7 @@ returns c =
     let count = c.sid_byte-2.ensures
     ∙ ap₂ (λ (x : SecurityFields) (b : ℕ). cond (eqb (ST x) 1) b 0) f c.u8_at-2.ensures in
     let type = c.held_type.ensures
-    ∙ ap (λ (x : SecurityFields). cond (eqb x.provider_info_size.0 0) 0 (le 4 a.provider-type.now 0)) f in record {
+    ∙ ap (λ (x : SecurityFields). cond (eqb x.provider_info_size.0 0) 0 (le 4 a.provider_type.now 0)) f in record {
       value = λ i. record {
         fields = f i;
         parts = (parts ∙ ap security_parts f) i;

@@ -15,7 +15,7 @@ use Rattle.reading.proofs.label.label_shown.Goals as goal
 use Rattle.reading.proofs.label.label_shown.Goals.{After-label_part-label}
 
 answer : After-label_part-label → Summarized
-answer c = let a = c.args in summarize a.security-first a.s.now
+answer c = let a = c.args in summarize a.security_first a.s.now
 
 -- whether the stand-in is shown, by the test
 picked : (c : After-label_part-label) (b : Bool) → eqb c.label_part-label.result.length.0 0 ≡ b → stands_in (answer c) ≡ b

@@ -26,7 +26,7 @@ start_at-at-requires c = none (goal.at.start_at-at-requires c).Else-number-ne-PA
 pub properties_number-requires : goal.properties_number-requires
 properties_number-requires c =
     let a = c.args in
-    omega (arith, c.start_at-at.ensures, (start-passed a.security-first a.s.now (none (goal.at.properties_number-requires c).Else-number-ne-PASSED)).small)
+    omega (arith, c.start_at-at.ensures, (start-passed a.security_first a.s.now (none (goal.at.properties_number-requires c).Else-number-ne-PASSED)).small)
 
 pub returns : goal.returns
 unfolding base_judge header_refusal

@@ -13,11 +13,11 @@ returns c =
     let a = c.args in
     let r = a.judged in
     let fields = c.security_fields-security in
-    let given = ap₂ (λ (i l : List ℕ). refusal_at a.security-first fields.result (name_break i) l r.number r.place.0)
+    let given = ap₂ (λ (i l : List ℕ). refusal_at a.security_first fields.result (name_break i) l r.number r.place.0)
     c.provider_info.ensures c.label_at-label.ensures in
     c.section_refusal.ensures
     ∙ given
-    ∙ read-refused a.security-first a.s.now r c.requires fields.result _ fields.ensures.value
+    ∙ read-refused a.security_first a.s.now r c.requires fields.result _ fields.ensures.value
     c.properties_fields.ensures.value
 
 pub label_at-label-requires : goal.label_at-label-requires

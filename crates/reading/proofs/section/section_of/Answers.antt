@@ -45,7 +45,7 @@ returns c =
     let summary =
     c.summary_of.ensures
     ∙ ap₂
-    (λ (h : SecurityHeader) (f : PropertiesFields). summary_of a.security-first h f (properties_parts h.parts.length.0 f))
+    (λ (h : SecurityHeader) (f : PropertiesFields). summary_of a.security_first h f (properties_parts h.parts.length.0 f))
     c.requires.security_value.0 f in
     let correlation = c.part.ensures ∙ ap (λ (p : ℕ). part (p + 4) 20) p in
     let tag = c.application_tag.ensures ∙ ap (λ (p : ℕ). le 4 (drop p s) 28) p in

@@ -32,4 +32,4 @@ unfolding section_of
 returns c =
     let a = c.args in
     let summary = ap (λ (x : Section). x.summary) c.section_of-section.ensures in
-    ap Accepted summary ∙ sym (summarize-passed a.security-first a.s.now (none (goal.at.returns c).Else-judged-ne-PASSED))
+    ap Accepted summary ∙ sym (summarize-passed a.security_first a.s.now (none (goal.at.returns c).Else-judged-ne-PASSED))

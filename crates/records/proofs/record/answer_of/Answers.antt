@@ -37,7 +37,7 @@ unfolding answer_of summary_at summary_of
 returns-in-Passed c =
     let a = c.args in
     let s = a.section.now in
-    let first = a.security-first in
+    let first = a.security_first in
     let judged = c.judge_once.ensures in
     let told = once-told first s (sym c.at-1.given.1 ∙ judged) in
     let read = c.properties_fields-fields.ensures.value in

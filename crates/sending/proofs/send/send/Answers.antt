@@ -22,7 +22,7 @@ use Rattle.sending.proofs.send.send.Goals.{After-shared_slice_known-1, After-sha
 abbrev asked : Start → SendRequest
 asked c =
     let a = c.args in
-    held_request a.request a.title a.sender-id a.encryption-key a.signature a.sender-cert a.provider-name
+    held_request a.request a.title a.sender_id a.encryption_key a.signature a.sender_cert a.provider_name
     a.extension a.body
 
 abbrev start : In-Properties-2 → Start

@@ -14,10 +14,10 @@ use Rattle.sending.proofs.send.write_with_info.Goals.{Then-provider_name-le61}
 
 -- the shorter array has room
 short : (c : Then-provider_name-le61) → let a = c.args in
-    length (provider_info a.request a.signature.now a.provider-name.now) ≤ 128
+    length (provider_info a.request a.signature.now a.provider_name.now) ≤ 128
 short c =
     let a = c.args in
-    omega (arith, c.if-provider_name-le61.true, info-most a.request a.signature.now a.provider-name.now)
+    omega (arith, c.if-provider_name-le61.true, info-most a.request a.signature.now a.provider_name.now)
 
 -- the first bytes of either array are as many as were written
 pub slice_bounds-write_section-end : goal.slice_bounds-write_section-end

@@ -31,7 +31,7 @@ record Room (c : Start) : Type 0 where
 room : (c : Else-request) → Room c
 room c =
     let a = c.args in
-    let name = a.provider-name.now in
+    let name = a.provider_name.now in
     let info = info-other a.request a.signature.now name c.if-signature-eq0.false c.if-request.false in
     let size : length (provider_info a.request a.signature.now name) ≡ 2 * length name + 6 =
     ap length info ∙ omega (arith, length-info (provider_type a.request) name) in
@@ -40,13 +40,13 @@ room c =
 pub returns-then-signature-eq0 : goal.returns-then-signature-eq0
 returns-then-signature-eq0 c =
     let a = c.args in
-    let none = info-unsigned a.request a.signature.now a.provider-name.now c.if-signature-eq0.true in
+    let none = info-unsigned a.request a.signature.now a.provider_name.now c.if-signature-eq0.true in
     rw none (refl, (written_none a.out.now).bytes)
 
 pub returns-then-request : goal.returns-then-request
 returns-then-request c =
     let a = c.args in
-    let none = info-default a.request a.signature.now a.provider-name.now c.if-request.true in
+    let none = info-default a.request a.signature.now a.provider_name.now c.if-request.true in
     rw none (refl, (written_none a.out.now).bytes)
 
 pub returns : goal.returns
@@ -54,7 +54,7 @@ returns c =
     let a = c.args in
     let r = room (goal.at.returns c).Else-request in
     let n = c.provider_type-provider_type in
-    let text = unit_bytes (a.provider-name.now ++ (0 ∷ [])) in
+    let text = unit_bytes (a.provider_name.now ++ (0 ∷ [])) in
     let halves = n.result % 65536 ∷ n.result / 65536 ∷ [] in
     let w = c.write_text in
     let first = written-first c.write_units.ensures in

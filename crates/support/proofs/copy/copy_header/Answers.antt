@@ -13,7 +13,7 @@ use Rattle.support.proofs.copy.copy_header.Goals.{After-security_fields-security
 
 pub returns-then-not-security_first : goal.returns-then-not-security_first
 unfolding over masked
-returns-then-not-security_first c = let a = c.args in rw (not-true a.security-first c.if-not-security_first.true)
+returns-then-not-security_first c = let a = c.args in rw (not-true a.security_first c.if-not-security_first.true)
 
 laid : (c : After-security_fields-security)
     → let a = c.args in

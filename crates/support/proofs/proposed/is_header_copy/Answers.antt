@@ -17,7 +17,7 @@ use Rattle.support.proofs.proposed.is_header_copy.Goals.{After-security_fields-s
 pub returns-then-not-security_first : goal.returns-then-not-security_first
 returns-then-not-security_first c =
     let a = c.args in
-    let none = header-none a.security-first a.s.now a.proposed.now a.at.0 c.requires c.if-not-security_first.true in
+    let none = header-none a.security_first a.s.now a.proposed.now a.at.0 c.requires c.if-not-security_first.true in
     (λ e. none, λ e. refl)
 
 laid : (c : After-security_fields-security)
@@ -31,7 +31,7 @@ pub returns : goal.returns
 unfolding header_at security_header
 returns c =
     let a = c.args in
-    rw (not-false a.security-first c.if-not-security_first.false)
+    rw (not-false a.security_first c.if-not-security_first.false)
     (subst
     (λ (x : SecurityFields).
     (c.is_security_copy.result ≡ true) ↔ (take a.at.0 a.proposed.now ≡ masked (security_mask x) a.s.now))

@@ -19,7 +19,7 @@ returns-then-base_judge-ne-PASSED c =
     let some = some-told _ _ c.base_judge.ensures (λ z. omega (arith, z)) in
     (λ e. absurd (false≢true e), λ x. absurd (none-refused _ _ _ some x))
 
-none : (c : Else-base_judge-ne-PASSED) → let a = c.args in (judge a.security-first a.s.now).number ≡ 0
+none : (c : Else-base_judge-ne-PASSED) → let a = c.args in (judge a.security_first a.s.now).number ≡ 0
 none c = none_told _ _ c.base_judge.ensures (omega arith)
 
 -- where the section lies
@@ -30,7 +30,7 @@ at : (c : After-section_end-end)
       properties = c.properties_fields-properties.result;
       end = c.section_end-end.result;
     }
-    ≡ placed_at a.security-first a.s.now
+    ≡ placed_at a.security_first a.s.now
 at c =
     placed-told _ _ (none (search)) c.properties_start-start.ensures c.properties_fields-properties.ensures.value c.section_end-end.ensures
 
@@ -41,14 +41,14 @@ returns-then-proposed-end c =
     let end = ap (λ (x : Placed). x.end.0) (at (goal.at.returns-then-proposed-end c).After-section_end-end) in (
       λ e. absurd (false≢true e),
       λ x.
-          let size = proposed-length a.security-first a.s.now a.proposed.now (none (goal.at.returns-then-proposed-end c).Else-base_judge-ne-PASSED) x in
+          let size = proposed-length a.security_first a.s.now a.proposed.now (none (goal.at.returns-then-proposed-end c).Else-base_judge-ne-PASSED) x in
           absurd (omega (arith, size, end)),
     )
 
 pub returns : goal.returns
 returns c =
     let a = c.args in
-    let same = proposed-same a.security-first a.s.now a.proposed.now (none (goal.at.returns c).Else-base_judge-ne-PASSED) in
+    let same = proposed-same a.security_first a.s.now a.proposed.now (none (goal.at.returns c).Else-base_judge-ne-PASSED) in
     (λ e. same.0 (c.is_section_copy.ensures.0 e), λ x. c.is_section_copy.ensures.1 (same.1 x))
 
 pub is_section_copy-requires : goal.is_section_copy-requires

@@ -11,7 +11,7 @@ use Rattle.ugbariteyo.proofs.section.ugb_read.Goals as goal
 use Rattle.ugbariteyo.proofs.section.ugb_read.Goals.{After-reading_case}
 
 answer : After-reading_case → Reading
-answer c = let a = c.args in read a.security-first a.s.now
+answer c = let a = c.args in read a.security_first a.s.now
 
 picked : (c : After-reading_case) (k : ReadingCase) → c.reading_case.result ≡ k → answer c ≡ reading_of k
 unfolding answer

@@ -23,15 +23,15 @@ use Rattle.values.proofs.read.read_value.Goals as goal
 use Rattle.values.proofs.read.read_value.Goals.{In-Passed-2}
 
 -- judging, where every step passed
-told : (c : In-Passed-2) → let a = c.args in Once a.security-first a.s.now (Passed c.at-1.given.0.0)
+told : (c : In-Passed-2) → let a = c.args in Once a.security_first a.s.now (Passed c.at-1.given.0.0)
 told c = once-told _ _ (sym c.at-1.given.1 ∙ c.judge_once.ensures)
 
 small : (c : In-Passed-2) → c.at-1.given.0.0.0 ≤ limit
 small c =
     let a = c.args in
     let none = (told c).0 in
-    subst (λ (n : ℕ). n ≤ limit) (sym (start-told a.security-first a.s.now none (told c).1))
-    (accepted a.security-first a.s.now none).start.small
+    subst (λ (n : ℕ). n ≤ limit) (sym (start-told a.security_first a.s.now none (told c).1))
+    (accepted a.security_first a.s.now none).start.small
 
 pub returns-in-Refused : goal.returns-in-Refused
 unfolding read_value section_value
@@ -44,7 +44,7 @@ unfolding summary_at summary_of
 returns-in-Passed c =
     let a = c.args in
     let s = a.s.now in
-    let first = a.security-first in
+    let first = a.security_first in
     let passed = told (goal.at.returns-in-Passed c).In-Passed-2 in
     let fields = fields_told first s passed.0 passed.1 c.properties_fields-fields.ensures.value in
     let start = start-told first s passed.0 passed.1 in

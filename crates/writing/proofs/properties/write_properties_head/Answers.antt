@@ -33,5 +33,5 @@ returns c =
     written_next 4 20 id class refl twenty
     (copied-lent 4 20 _ (omega (arith, start)) id copying.new.1.0 twenty copying.ensures) in
     let body = number-next 4 f.body_type correlation c.write_u32.ensures in
-    let tag = number-next 4 a.application-tag body c.write_u32-2.ensures in
-    tag.bytes ∙ ap (λ (bs : List ℕ). over bs a.out.now) (head-stored f id a.application-tag)
+    let tag = number-next 4 a.application_tag body c.write_u32-2.ensures in
+    tag.bytes ∙ ap (λ (bs : List ℕ). over bs a.out.now) (head-stored f id a.application_tag)

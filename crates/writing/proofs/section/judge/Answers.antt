@@ -19,7 +19,7 @@ use Rattle.writing.proofs.section.judge.Goals.{After-header_number-number, Start
 abbrev section : Start → Given
 section c =
     let a = c.args in
-    given a.values a.sender-id.now a.encryption-key.now a.signature.now a.sender-cert.now a.provider-info.now [] [] []
+    given a.values a.sender_id.now a.encryption_key.now a.signature.now a.sender_cert.now a.provider_info.now [] [] []
 
 number-told : (c : After-header_number-number)
     → let g = section c.Start in

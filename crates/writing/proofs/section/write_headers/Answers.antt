@@ -26,7 +26,7 @@ use Rattle.writing.proofs.section.write_headers.Goals.{Joined-first, Start}
 abbrev section : Start → Given
 section c =
     let a = c.args in
-    held a.values a.sender-id a.encryption-key a.signature a.sender-cert a.provider-info a.label a.extension a.body
+    held a.values a.sender_id a.encryption_key a.signature a.sender_cert a.provider_info a.label a.extension a.body
 
 -- what stands first, by a test that was made
 headed : {first : Bool} {now : List ℕ} (b : Bool) (bs out : List ℕ) → first ≡ b → now ≡ over (cond b bs []) out

@@ -26,7 +26,7 @@ use Rattle.writing.proofs.section.write_judged.Goals.{After-section_end-length, 
 abbrev section : Start → Given
 section c =
     let a = c.args in
-    held a.values a.sender-id a.encryption-key a.signature a.sender-cert a.provider-info a.label a.extension a.body
+    held a.values a.sender_id a.encryption_key a.signature a.sender_cert a.provider_info a.label a.extension a.body
 
 -- no step refuses it
 passed : (c : Start) → (write_refusal (section c)).number ≡ 0

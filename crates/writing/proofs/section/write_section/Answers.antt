@@ -19,7 +19,7 @@ use Rattle.writing.proofs.section.write_section.Goals.{After-judge-judged, After
 abbrev section : Start → Given
 section c =
     let a = c.args in
-    held a.values a.sender-id a.encryption-key a.signature a.sender-cert a.provider-info a.label a.extension a.body
+    held a.values a.sender_id a.encryption_key a.signature a.sender_cert a.provider_info a.label a.extension a.body
 
 -- where the function begins
 abbrev begun : After-judge-judged → Start

@@ -12,7 +12,7 @@ use Rattle.writing.proofs.security.write_security.Goals as goal
 pub returns : goal.returns
 returns c =
     let a = c.args in
-    let parts = security_parts_bytes a.sender-id.now a.encryption-key.now a.signature.now a.sender-cert.now a.provider-info.now in
+    let parts = security_parts_bytes a.sender_id.now a.encryption_key.now a.signature.now a.sender_cert.now a.provider_info.now in
     let behind = c.write_security_parts in
     let w1 = written-first c.write_security_fixed.ensures in
     (written-rest 16 (length parts) parts behind.new.1.1.1.1.1.0 w1 (sym (length-security_row a.f)) refl

@@ -33,7 +33,7 @@ reach : (c : After-write_padded_part-3)
     → let a = (begun c.After-write_padded_part).args in
     (c.write_padded_part-key_at.result.0 + c.write_padded_part.result.0 + c.write_padded_part-2.result.0
     + c.write_padded_part-3.result.0)
-    + padded 4 (length a.provider-info.now)
+    + padded 4 (length a.provider_info.now)
     ≤ length a.out.now
 reach c =
     omega (arith, (begun c.After-write_padded_part).requires)
@@ -43,11 +43,11 @@ unfolding security_parts_bytes
 returns c =
     let a = (begun (goal.at.returns c).After-write_padded_part).args in
     let h = (begun (goal.at.returns c).After-write_padded_part).requires in
-    let identity = a.sender-id.now in
-    let key = a.encryption-key.now in
+    let identity = a.sender_id.now in
+    let key = a.encryption_key.now in
     let signature = a.signature.now in
-    let cert = a.sender-cert.now in
-    let provider = a.provider-info.now in
+    let cert = a.sender_cert.now in
+    let provider = a.provider_info.now in
     let c1 = c.write_padded_part-key_at in
     let c2 = c.write_padded_part in
     let c3 = c.write_padded_part-2 in

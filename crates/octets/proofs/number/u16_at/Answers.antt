@@ -4,7 +4,6 @@ use native.Mathlib.Numerals.{add-one}
 use native.Mathlib.Omega.{arith}
 use Rattle.octets.specs.Number.{le}
 use Rattle.octets.proofs.Laws.Number.{le_out}
-use Rattle.octets.proofs.Laws.Steps.{the}
 use borrow.Author.Rules.{rules}
 use Rattle.octets.proofs.number.u16_at.Goals as goal
 

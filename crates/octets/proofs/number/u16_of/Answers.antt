@@ -1,7 +1,6 @@
 -- Both sides compute to the same sum.
 use native.Mathlib.Omega.{arith}
 use Rattle.octets.specs.Number.{le}
-use borrow.Author.Rules.{rules}
 use Rattle.octets.proofs.number.u16_of.Goals as goal
 
 pub returns : goal.returns

@@ -2,10 +2,8 @@
 use Prim.Native.Nat.{ℕ, ◌/◌}
 use mathlib.Core.Path.{sym, ap, ◌∙◌}
 use mathlib.Core.List.{List, ◌++◌}
-use borrow.Author.Rules.{rules}
 use Rattle.octets.specs.Number.{to_le}
 use Rattle.octets.proofs.Laws.Number.{to_le-add, to_le-mod}
-use Rattle.octets.proofs.Laws.Steps.{the}
 use Rattle.octets.proofs.number.u32_bytes.Goals as goal
 
 pub returns : goal.returns

@@ -2,8 +2,6 @@
 use mathlib.Core.Path.{sym}
 use native.Mathlib.Omega.{arith}
 use Rattle.octets.proofs.Laws.Number.{le-add, le_out}
-use Rattle.octets.proofs.Laws.Steps.{the}
-use borrow.Author.Rules.{rules}
 use Rattle.octets.proofs.number.u64_at.Goals as goal
 
 pub returns : goal.returns

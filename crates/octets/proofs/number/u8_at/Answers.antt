@@ -1,8 +1,6 @@
 -- Past the end a list's element is the default, 0.
 use mathlib.Core.Path.{sym}
 use lib.ListN.{get_or-eq_default}
-use borrow.Author.Rules.{rules}
-use Rattle.octets.proofs.Laws.Steps.{the}
 use Rattle.octets.proofs.number.u8_at.Goals as goal
 
 pub returns-else-i-s : goal.returns-else-i-s

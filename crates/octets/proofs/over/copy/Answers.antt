@@ -3,11 +3,9 @@ use Prim.Native.Nat.{ℕ, ◌+◌, ◌-◌, ◌≤◌}
 use mathlib.Core.Path.{◌≡◌, refl, ◌∙◌}
 use mathlib.Core.List.{List}
 use native.Mathlib.Omega.{arith}
-use borrow.Author.Rules.{rules}
 use lib.ListN.{length, take, drop, length-drop}
 use lib.Seq.{length-take-le}
-use Rattle.octets.proofs.Laws.Over.{Written, copied-both, length-lent, written-block, written-length, written_none}
-use Rattle.octets.proofs.Laws.Steps.{the}
+use Rattle.octets.proofs.Laws.Over.{copied-both, length-lent, written-block, written-length, written_none}
 use Rattle.octets.proofs.over.copy.Goals as goal
 
 -- the bytes of the last block

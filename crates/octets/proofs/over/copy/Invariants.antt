@@ -1,13 +1,8 @@
 -- The loop's invariant: the first `i` bytes are written. The measure is what is left of the `n` bytes that both hold.
-use Prim.Native.Nat.{ℕ, ◌+◌, ◌-◌, ◌≤◌}
-use mathlib.Core.Path.{◌≡◌, refl, ◌∙◌}
-use mathlib.Core.List.{List}
-use native.Mathlib.Omega.{arith}
-use borrow.Author.Rules.{rules}
-use lib.ListN.{length, take, drop, length-drop}
-use lib.Seq.{length-take-le}
-use Rattle.octets.proofs.Laws.Over.{Written, copied-both, length-lent, written-block, written-length, written_none}
-use Rattle.octets.proofs.Laws.Steps.{the}
+use Prim.Native.Nat.{◌-◌, ◌≤◌}
+use mathlib.Core.Path.{◌≡◌}
+use lib.ListN.{length, take}
+use Rattle.octets.proofs.Laws.Over.{Written}
 use Rattle.octets.proofs.over.copy.Given as goal
 
 abbrev pub invariant-loop-i : goal.invariant-loop-i

@@ -1,7 +1,5 @@
 -- Copied whole into the array, and whole out of it.
-use borrow.Author.Rules.{rules}
 use Rattle.octets.proofs.Laws.Over.{copied-through}
-use Rattle.octets.proofs.Laws.Steps.{the}
 use Rattle.octets.proofs.over.copy_16.Goals as goal
 
 pub returns : goal.returns

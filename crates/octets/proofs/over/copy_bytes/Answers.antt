@@ -1,13 +1,9 @@
 -- The loop's invariant: the first `i` bytes are written, and the output is as long as it was. The measure is what is left.
-use Prim.Native.Nat.{◌-◌, ◌≤◌}
-use mathlib.Core.Path.{◌≡◌, refl, ◌∙◌}
+use mathlib.Core.Path.{refl, ◌∙◌}
 use mathlib.Core.List.{[]}
 use native.Mathlib.Omega.{arith}
-use borrow.Author.Rules.{rules}
-use lib.ListN.{length, get_or, take, length-set}
-use Rattle.octets.specs.Over.{over}
+use lib.ListN.{get_or, length-set}
 use Rattle.octets.proofs.Laws.Over.{copied-both, over_none, over-part, over-start}
-use Rattle.octets.proofs.Laws.Steps.{the}
 use Rattle.octets.proofs.over.copy_bytes.Goals as goal
 
 pub loop-i-init : goal.loop-i-init

@@ -1,11 +1,8 @@
 -- The loop's invariant: the first `i` bytes are written. The measure is what is left of the `n` bytes that both hold.
-use Prim.Native.Nat.{◌+◌, ◌-◌, ◌≤◌}
-use mathlib.Core.Path.{◌≡◌, refl, ◌∙◌}
-use native.Mathlib.Omega.{arith}
-use borrow.Author.Rules.{rules}
+use Prim.Native.Nat.{◌-◌, ◌≤◌}
+use mathlib.Core.Path.{◌≡◌}
 use lib.ListN.{length, take}
-use Rattle.octets.proofs.Laws.Over.{Written, copied-both, length-lent, written-block, written_last, written-length, written_none}
-use Rattle.octets.proofs.Laws.Steps.{the}
+use Rattle.octets.proofs.Laws.Over.{Written}
 use Rattle.octets.proofs.over.copy_long.Given as goal
 
 abbrev pub invariant-loop-i : goal.invariant-loop-i

@@ -1,13 +1,11 @@
 -- The loop's invariant: the first `i` bytes are moved, and those behind them are as they stood. The measure is what is left.
-use Prim.Native.Nat.{◌+◌, ◌-◌, ◌≤◌}
-use mathlib.Core.Path.{◌≡◌, refl, ◌∙◌}
+use Prim.Native.Nat.{◌+◌}
+use mathlib.Core.Path.{refl, ◌∙◌}
 use mathlib.Core.List.{[]}
 use native.Mathlib.Omega.{arith}
-use lib.ListN.{length, get_or, take, drop, length-set}
-use Rattle.octets.specs.Over.{over}
+use lib.ListN.{get_or, length-set}
 use Rattle.octets.proofs.Laws.Move.{moved_all, moved_more, moved_none, moved_out}
 use Rattle.octets.proofs.Laws.Over.{over_none, over-start}
-use Rattle.octets.proofs.Laws.Steps.{the}
 use Rattle.octets.proofs.over.move_to_front.Goals as goal
 
 pub loop-i-preserved : goal.loop-i-preserved

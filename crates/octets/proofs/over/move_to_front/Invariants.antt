@@ -1,13 +1,8 @@
 -- The loop's invariant: the first `i` bytes are moved, and those behind them are as they stood. The measure is what is left.
-use Prim.Native.Nat.{◌+◌, ◌-◌, ◌≤◌}
-use mathlib.Core.Path.{◌≡◌, refl, ◌∙◌}
-use mathlib.Core.List.{[]}
-use native.Mathlib.Omega.{arith}
-use lib.ListN.{length, get_or, take, drop, length-set}
+use Prim.Native.Nat.{◌-◌, ◌≤◌}
+use mathlib.Core.Path.{◌≡◌}
+use lib.ListN.{length, take, drop}
 use Rattle.octets.specs.Over.{over}
-use Rattle.octets.proofs.Laws.Move.{moved_all, moved_more, moved_none, moved_out}
-use Rattle.octets.proofs.Laws.Over.{over_none, over-start}
-use Rattle.octets.proofs.Laws.Steps.{the}
 use Rattle.octets.proofs.over.move_to_front.Given as goal
 
 abbrev pub invariant-loop-i : goal.invariant-loop-i

@@ -1,12 +1,10 @@
 -- The loop's invariant: `i` zeros are written, and the output is as long as it was. The measure is what is left of it.
-use Prim.Native.Nat.{ℕ, ◌-◌, ◌≤◌}
+use Prim.Native.Nat.{ℕ}
 use mathlib.Core.Path.{◌≡◌, refl, ap, ◌∙◌}
 use mathlib.Core.List.{[]}
 use native.Mathlib.Omega.{arith}
 use lib.ListN.{length, replicate, length-replicate, length-set}
-use Rattle.octets.specs.Over.{over}
 use Rattle.octets.proofs.Laws.Over.{over_none, over-start, over-whole, over_zeros}
-use Rattle.octets.proofs.Laws.Steps.{the}
 use Rattle.octets.proofs.over.zero.Goals as goal
 
 pub loop-i-preserved : goal.loop-i-preserved

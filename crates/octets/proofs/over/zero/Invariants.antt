@@ -1,12 +1,8 @@
 -- The loop's invariant: `i` zeros are written, and the output is as long as it was. The measure is what is left of it.
-use Prim.Native.Nat.{ℕ, ◌-◌, ◌≤◌}
-use mathlib.Core.Path.{◌≡◌, refl, ap, ◌∙◌}
-use mathlib.Core.List.{[]}
-use native.Mathlib.Omega.{arith}
-use lib.ListN.{length, replicate, length-replicate, length-set}
+use Prim.Native.Nat.{◌-◌, ◌≤◌}
+use mathlib.Core.Path.{◌≡◌}
+use lib.ListN.{length, replicate}
 use Rattle.octets.specs.Over.{over}
-use Rattle.octets.proofs.Laws.Over.{over_none, over-start, over-whole, over_zeros}
-use Rattle.octets.proofs.Laws.Steps.{the}
 use Rattle.octets.proofs.over.zero.Given as goal
 
 abbrev pub invariant-loop-i : goal.invariant-loop-i

@@ -1,7 +1,6 @@
 -- `octets::padding::padding` meets its contract: the code is the definition at the width 4.
 -- Assumes nothing.
 use native.Mathlib.Omega.{arith}
-use borrow.Author.Rules.{rules}
 use Rattle.octets.specs.Padding.{padding}
 use Rattle.octets.proofs.padding.padding.Goals as goal
 

@@ -1,15 +1,14 @@
 -- The loop's invariant: while `zero` holds all the bytes passed are zero, and of zeros it holds. The measure is what is left of the length.
-use Prim.Native.Nat.{ℕ, ◌-◌, ◌≤◌}
+use Prim.Native.Nat.{ℕ}
 use mathlib.Core.Path.{◌≡◌, refl, sym, ap, ◌∙◌}
-use mathlib.Core.Bool.{true, and-eq-true_iff}
+use mathlib.Core.Bool.{and-eq-true_iff}
 use mathlib.Core.List.{List}
 use native.Mathlib.Omega.{arith}
 use borrow.Author.Count.{below_more}
 use borrow.Author.Tests.{eqb-true, eq-eqb}
 use lib.Dec.{eqb}
 use lib.ListN.{length, get_or, replicate, length-replicate}
-use Rattle.octets.proofs.Laws.Same.{SameTo, get_or-zeros, same-all}
-use Rattle.octets.proofs.Laws.Steps.{the}
+use Rattle.octets.proofs.Laws.Same.{get_or-zeros, same-all}
 use Rattle.octets.proofs.same.all_zero.Goals as goal
 
 pub loop-i-preserved : goal.loop-i-preserved

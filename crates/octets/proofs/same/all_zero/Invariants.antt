@@ -1,15 +1,9 @@
 -- The loop's invariant: while `zero` holds all the bytes passed are zero, and of zeros it holds. The measure is what is left of the length.
-use Prim.Native.Nat.{ℕ, ◌-◌, ◌≤◌}
-use mathlib.Core.Path.{◌≡◌, refl, sym, ap, ◌∙◌}
-use mathlib.Core.Bool.{true, and-eq-true_iff}
-use mathlib.Core.List.{List}
-use native.Mathlib.Omega.{arith}
-use borrow.Author.Count.{below_more}
-use borrow.Author.Tests.{eqb-true, eq-eqb}
-use lib.Dec.{eqb}
-use lib.ListN.{length, get_or, replicate, length-replicate}
-use Rattle.octets.proofs.Laws.Same.{SameTo, get_or-zeros, same-all}
-use Rattle.octets.proofs.Laws.Steps.{the}
+use Prim.Native.Nat.{◌-◌, ◌≤◌}
+use mathlib.Core.Path.{◌≡◌}
+use mathlib.Core.Bool.{true}
+use lib.ListN.{length, replicate}
+use Rattle.octets.proofs.Laws.Same.{SameTo}
 use Rattle.octets.proofs.same.all_zero.Given as goal
 
 abbrev pub invariant-loop-i : goal.invariant-loop-i

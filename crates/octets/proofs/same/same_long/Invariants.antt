@@ -1,14 +1,8 @@
 -- The loop's invariant: the bytes of the blocks passed are the same. The measure is what is left of the length. Behind the blocks, the whole
 -- 16s and the last 16, which begin among what was compared, are all that is left.
-use Prim.Native.Nat.{ℕ, ◌+◌, ◌*◌, ◌-◌, ◌/◌, ◌≤◌}
-use mathlib.Core.Path.{sym, ap}
-use mathlib.Core.Bool.{false≢true}
-use native.Mathlib.Omega.{arith}
-use borrow.Author.Rules.{rules}
-use borrow.Author.Tests.{not-false}
+use Prim.Native.Nat.{◌-◌, ◌≤◌}
 use lib.ListN.{length}
-use Rattle.octets.proofs.Laws.Same.{SameTo, fails, piece, same-last, same_next, same_none}
-use Rattle.octets.proofs.Laws.Steps.{the}
+use Rattle.octets.proofs.Laws.Same.{SameTo}
 use Rattle.octets.proofs.same.same_long.Given as goal
 
 abbrev pub invariant-loop-i : goal.invariant-loop-i

@@ -1,6 +1,5 @@
 -- The blocks passed hold none.
 use native.Mathlib.Omega.{arith}
-use borrow.Author.Rules.{rules}
 use Rattle.octets.proofs.text.before_zero.Goals as goal
 
 pub before_zero_from-requires : goal.before_zero_from-requires

@@ -1,15 +1,14 @@
 -- The loop's invariant: `i` units are there, and none of them is zero. The measure is what is left of the units.
-use Prim.Native.Nat.{ℕ, suc, ◌*◌, ◌-◌, ◌/◌, ◌≤◌, ◌<◌}
+use Prim.Native.Nat.{ℕ, suc, ◌*◌, ◌/◌, ◌≤◌, ◌<◌}
 use mathlib.Core.Path.{◌≡◌, sym, ap, ◌∙◌}
 use mathlib.Core.List.{List}
-use mathlib.Core.Logic.{⊎_elim}
 use native.Mathlib.Omega.{arith}
 use borrow.Author.Tests.{le-ltb, ltb-false, ne_eqb}
 use lib.ListN.{length, get_or}
 use Rattle.octets.specs.Text.{first_zero, units}
-use Rattle.octets.proofs.Laws.Steps.{the}
 use Rattle.octets.proofs.Laws.Text.{first_zero-le, first_zero-most, first_zero-suc, length-units, unit-of}
 use Rattle.octets.proofs.text.before_zero_from.Goals as goal
+use Rattle.octets.proofs.text.before_zero_from.Goals.{then-n-i, else-n-i+then-u16_of-eq0}
 
 pub loop-i-init : goal.loop-i-init
 loop-i-init c =
@@ -39,18 +38,10 @@ returns c =
     let l = c.loop-i in
     let most = first_zero-most (units s) in
     let n : length (units s) ≡ length s / 2 = length-units s in
-    let unit : c.if-n-i.unit ≡ first_zero (units s) =
-    ⊎_elim
-    (λ w. omega arith)
-    (λ w.
-    let zero : get_or (units s) l.i 0 ≡ 0 = unit-of s l.i (omega arith) ∙ sym w.3.ensures ∙ w.4.true in
-    omega (arith, first_zero-le (units s) l.i (omega arith) zero))
-    c.if-n-i.branch in record { result_value = ap (◌*◌ 2) unit; result_in_bounds = omega arith }
-
-pub u16_of-requires : goal.u16_of-requires
-u16_of-requires c =
-    search
-
-pub overflow_mul-result : goal.overflow_mul-result
-overflow_mul-result c =
-    ⊎_elim (λ w. omega arith) (λ w. omega arith) c.if-n-i.branch
+    let unit : c.if-n-i.unit ≡ first_zero (units s) = elim c.if-n-i.branch [
+      | then-n-i w ↦ omega arith
+      | else-n-i+then-u16_of-eq0 w ↦
+          let zero : get_or (units s) l.i 0 ≡ 0 = unit-of s l.i (omega arith) ∙ sym w.u16_of.ensures ∙ w.if-u16_of-eq0.true in
+          omega (arith, first_zero-le (units s) l.i (omega arith) zero)
+    ] in
+    record { result_value = ap (◌*◌ 2) unit; result_in_bounds = omega arith }

@@ -1,12 +1,9 @@
 -- The loop's invariant: the first `i` bytes are whole blocks, and no unit in them is zero. The measure is what is left of the length.
-use Prim.Native.Nat.{◌+◌, ◌-◌, ◌/◌, ◌%◌, ◌≤◌, ◌<◌}
-use mathlib.Core.Path.{◌≡◌, sym, ◌∙◌}
+use Prim.Native.Nat.{◌+◌, ◌/◌, ◌≤◌, ◌<◌}
+use mathlib.Core.Path.{sym, ◌∙◌}
 use native.Mathlib.Omega.{arith}
-use borrow.Author.Rules.{rules}
 use borrow.Author.Tests.{ltb-false, ltb-true}
-use lib.ListN.{length}
 use Rattle.octets.specs.Text.{first_zero, units}
-use Rattle.octets.proofs.Laws.Steps.{the}
 use Rattle.octets.proofs.Laws.Text.{first_zero-most, first_zero-part, length-units}
 use Rattle.octets.proofs.text.blocks_without_zero.Goals as goal
 

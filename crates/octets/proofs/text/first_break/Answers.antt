@@ -1,8 +1,6 @@
 -- The smaller of two units begins at the smaller of their offsets; where there is no unit, that is 0.
 use native.Mathlib.Omega.{arith}
-use borrow.Author.Rules.{rules}
 use Rattle.octets.specs.Text.{break_at, first_break}
-use Rattle.octets.proofs.Laws.Steps.{the}
 use Rattle.octets.proofs.Laws.Text.{length-units}
 use Rattle.octets.proofs.text.first_break.Goals as goal
 

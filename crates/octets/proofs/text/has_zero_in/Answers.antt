@@ -2,11 +2,9 @@
 use Prim.Native.Nat.{◌+◌, ◌*◌, ◌-◌, ◌/◌, ◌≤◌, ◌<◌}
 use mathlib.Core.Path.{◌≡◌, sym, ap, ◌∙◌}
 use native.Mathlib.Omega.{arith}
-use borrow.Author.Rules.{rules}
 use borrow.Author.Tests.{lt-ltb, ltb-false, ltb-true}
 use lib.Dec.{ltb}
 use Rattle.octets.specs.Text.{first_zero, units}
-use Rattle.octets.proofs.Laws.Steps.{the}
 use Rattle.octets.proofs.Laws.Text.{first_zero-part}
 use Rattle.octets.proofs.text.has_zero_in.Goals as goal
 

@@ -10,7 +10,6 @@ use lib.Dec.{eqb, ltb}
 use lib.ListN.{length, get_or}
 use Rattle.octets.specs.Number.{le}
 use Rattle.octets.specs.Text.{first_zero, is_text, last_only, units}
-use Rattle.octets.proofs.Laws.Steps.{the}
 use Rattle.octets.proofs.Laws.Text.{first_zero-le, get_or-first_zero, get_or-units, last_only-first_zero, length-units}
 use Rattle.octets.proofs.text.is_text.Goals as goal
 

@@ -4,7 +4,7 @@
 use Prim.Native.Nat.{ℕ, ◌≤◌, ◌<◌}
 use mathlib.Core.Path.{◌≡◌, sym, subst, ◌∙◌}
 use mathlib.Core.Bool.{Bool, true, false, not, ◌&&◌, ◌||◌, cond}
-use borrow.Author.Tests.{eq-eqb, le-leb, le-ltb, lt-leb, lt-ltb, ne_eqb, not-false, not-true}
+use borrow.Author.Tests.{eq-eqb, le-leb, le-ltb, lt-leb, lt-ltb, ne_eqb}
 use lib.Dec.{eqb, leb, ltb}
 
 -- `the tie.After-f (search)`: the place of a function where `f` has answered, wherever it lies before the place at hand
@@ -70,11 +70,11 @@ call-true r t e p = sym p ∙ e
 pub call-false : (r t : Bool) → r ≡ t → r ≡ false → false ≡ t
 call-false r t e p = sym p ∙ e
 
-pub call-not-true : (r t : Bool) → r ≡ t → not r ≡ true → true ≡ not t
-call-not-true r t e p = rw (← e) (sym p)
+pub call-not-true : (r t : Bool) → r ≡ t → r ≡ false → true ≡ not t
+call-not-true r t e p = not-held t (call-false r t e p)
 
-pub call-not-false : (r t : Bool) → r ≡ t → not r ≡ false → false ≡ not t
-call-not-false r t e p = rw (← e) (sym p)
+pub call-not-false : (r t : Bool) → r ≡ t → r ≡ true → false ≡ not t
+call-not-false r t e p = not-failed t (call-true r t e p)
 
 -- a number by a call that answers `r`, and ensures that `r` is the definition's number
 pub told-above : (r x n : ℕ) → r ≡ x → n < r → true ≡ ltb n x
@@ -104,19 +104,6 @@ told-eqb r x n e = rw e
 pub told-not : (r t : Bool) → r ≡ t → not r ≡ not t
 told-not r t e = rw e
 
--- `if !flag`, and `if !call()` where the definition has the test itself
-pub flag-not-true : (t : Bool) → not t ≡ true → false ≡ t
-flag-not-true t e = sym (not-true t e)
-
-pub flag-not-false : (t : Bool) → not t ≡ false → true ≡ t
-flag-not-false t e = sym (not-false t e)
-
-pub call-fails : (r t : Bool) → r ≡ t → not r ≡ true → false ≡ t
-call-fails r t e p = flag-not-true r p ∙ e
-
-pub call-holds : (r t : Bool) → r ≡ t → not r ≡ false → true ≡ t
-call-holds r t e p = flag-not-false r p ∙ e
-
 pub ruleset steps = (
   passed,
   answers,
@@ -142,4 +129,5 @@ pub ruleset steps = (
 
 pub ruleset told = (told-above, told-not-above, told_below, told-not-below, told-equal, told-unequal, told-ltb, told-eqb, told-not)
 
-pub ruleset negated = (flag-not-true, flag-not-false, call-fails, call-holds)
+-- `if !flag`, and `if !call()` where the definition has the test itself
+pub ruleset negated = (flag-clear, flag-set, call-false, call-true)

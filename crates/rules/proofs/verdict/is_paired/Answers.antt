@@ -6,6 +6,7 @@ use mathlib.Core.Logic.{◌⊎◌, inl, inr}
 use borrow.Author.Tests.{ne_eqb}
 use lib.Dec.{eqb}
 use Rattle.rules.specs.Listed.{encryption_pairs, paired}
+use borrow.Author.Rules.{rules}
 use Rattle.rules.proofs.verdict.is_paired.Goals as goal
 
 one-or-three : (level algorithm : ℕ) → (level ≡ 1) ⊎ (level ≡ 3)
@@ -26,12 +27,12 @@ no_row level algorithm n m = rw (ne_eqb level 1 (λ e. n (inl e)), ne_eqb level 
 
 pub returns-in-1 : goal.returns-in-1
 returns-in-1 c =
-    one-or-three _ _ c.in-1.keys1
+    one-or-three _ _ c.in-1.is
 
 pub returns-in-5 : goal.returns-in-5
 returns-in-5 c =
-    five _ _ c.in-1.keys2
+    five _ _ c.in-5.is
 
 pub returns-in_default : goal.returns-in_default
 returns-in_default c =
-    no_row _ _ c.in-1.rest.0.1 c.in-1.rest.1
+    no_row _ _ (search rules) (search rules)

@@ -9,7 +9,7 @@ use borrow.Author.Tests.{eq-eqb, eqb-false, eqb-true, leb-true, ltb-false, ne_eq
 use lib.ListN.{length, drop, length-drop}
 use lib.Dec.{eqb, leb, ltb}
 use Rattle.octets.specs.Padding.{padded}
-use Rattle.octets.specs.Text.{break_at, first_break, is_text, last_only, units}
+use Rattle.octets.specs.Text.{break_at, is_text, last_only, units}
 use Rattle.octets.proofs.Laws.Padding.{le-padded}
 use Rattle.octets.proofs.Laws.Part.{length-within}
 use Rattle.octets.proofs.Laws.Text.{first-break, length-units}
@@ -18,7 +18,7 @@ use Rattle.rules.specs.Listed.{classes, listed}
 use Rattle.rules.specs.Place.{header_refusal, name_break, name_place, properties_place, properties_refusal, section_refusal, security_place, security_refusal}
 use Rattle.rules.specs.Properties.{bad_allocation, label_contents, label_text, properties_fields, properties_length, properties_parts, properties_steps, read_properties}
 use Rattle.rules.specs.Reading.{base_judge, fields_at, identity_at, judge, label_at, properties_number, provider_info_at, security_number, start_at}
-use Rattle.rules.specs.Refusal.{first_of, limit, refusal}
+use Rattle.rules.specs.Refusal.{first_of, limit}
 use Rattle.rules.specs.Security.{AS, AU, DE, DP, ST, all_empty, identity_head, identity_size, provider_at, provider_size, provider_text, read_security, security_contents, security_fields, security_length, security_parts, security_steps}
 use Rattle.rules.specs.declared.properties.PropertiesFields.{PropertiesFields}
 use Rattle.rules.specs.declared.refusal.Refusal.{Refusal}

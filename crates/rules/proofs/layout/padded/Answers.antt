@@ -1,13 +1,11 @@
 -- The padding is below 4, so the sum fits.
 use native.Mathlib.Omega.{arith}
-use borrow.Author.Rules.{rules}
 use Rattle.octets.specs.Padding.{padded, padding}
 use Rattle.rules.proofs.layout.padded.Goals as goal
 
-pub padding-requires : goal.padding-requires
+pub overflow_add-result : goal.overflow_add-result
 unfolding padded padding
-padding-requires c =
-    search rules
+overflow_add-result c = omega arith
 
 pub returns : goal.returns
 unfolding padded padding

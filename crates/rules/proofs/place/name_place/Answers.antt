@@ -1,10 +1,8 @@
 -- The sum of the three: where the provider info begins, its type, and the unit behind it.
-use Prim.Native.Nat.{ℕ, ◌+◌, min}
-use mathlib.Core.Path.{◌≡◌, ap, ◌∙◌}
+use mathlib.Core.Path.{ap, ◌∙◌}
 use native.Mathlib.Omega.{arith}
 use borrow.Author.Rules.{rules}
 use Rattle.octets.specs.Text.{break_at}
-use Rattle.octets.proofs.Laws.Steps.{the}
 use Rattle.rules.specs.Place.{name_break, name_place}
 use Rattle.rules.proofs.place.name_place.Goals as goal
 

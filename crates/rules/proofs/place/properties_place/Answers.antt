@@ -3,7 +3,7 @@ use Prim.Native.Nat.{◌+◌}
 use mathlib.Core.Path.{ap}
 use native.Mathlib.Omega.{arith}
 use borrow.Author.Rules.{rules}
-use Rattle.octets.proofs.Laws.Steps.{steps, the}
+use Rattle.octets.proofs.Laws.Steps.{steps}
 use Rattle.rules.specs.Place.{properties_place}
 use Rattle.rules.proofs.place.properties_place.Goals as goal
 

@@ -1,8 +1,6 @@
 -- The SecurityHeader's, or the MessagePropertiesHeader's behind its start.
 use Prim.Native.Nat.{◌+◌}
 use mathlib.Core.Path.{ap}
-use borrow.Author.Rules.{rules}
-use Rattle.octets.proofs.Laws.Steps.{the}
 use Rattle.rules.specs.Place.{properties_refusal, refusal_at}
 use Rattle.rules.specs.Refusal.{refusal}
 use Rattle.rules.proofs.place.section_refusal.Goals as goal

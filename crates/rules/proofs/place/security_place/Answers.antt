@@ -2,7 +2,7 @@
 use mathlib.Core.Path.{sym, ◌∙◌}
 use borrow.Author.Rules.{rules}
 use borrow.Author.Tests.{eq-eqb}
-use Rattle.octets.proofs.Laws.Steps.{steps, the}
+use Rattle.octets.proofs.Laws.Steps.{steps}
 use Rattle.rules.specs.Place.{security_place}
 use Rattle.rules.proofs.Laws.Place.{by_size, by-text}
 use Rattle.rules.proofs.place.security_place.Goals as goal

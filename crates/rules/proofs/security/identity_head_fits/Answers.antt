@@ -2,7 +2,7 @@
 use mathlib.Core.Path.{ap₂}
 use lib.Dec.{eqb}
 use borrow.Author.Rules.{rules}
-use Rattle.octets.proofs.Laws.Steps.{and-next, equal, not-failed, or-next, steps, the, told, told-equal}
+use Rattle.octets.proofs.Laws.Steps.{and-next, equal, not-failed, or-next, steps, told, told-equal}
 use Rattle.rules.specs.Security.{identity_head}
 use Rattle.rules.proofs.security.identity_head_fits.Goals as goal
 

@@ -57,9 +57,9 @@ provider_size_fits-requires c =
 pub returns-then-not-provider_size_fits : goal.returns-then-not-provider_size_fits
 unfolding security_steps
 returns-then-not-provider_size_fits c =
-    search steps depth 20
+    search steps depth 20 fits 4000
 
 pub returns : goal.returns
 unfolding security_steps
 returns c =
-    search steps depth 20
+    search steps depth 20 fits 4000

@@ -1,6 +1,4 @@
 -- Each test is what its function promises.
-use borrow.Author.Rules.{rules}
-use Rattle.octets.proofs.Laws.Steps.{the}
 use Rattle.rules.specs.Summary.{authentication_fails}
 use Rattle.rules.proofs.verdict.authentication_fails.Goals as goal
 

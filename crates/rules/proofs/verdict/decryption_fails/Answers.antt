@@ -1,5 +1,4 @@
 -- The test is what its function promises.
-use borrow.Author.Rules.{rules}
 use Rattle.rules.specs.Summary.{decryption_fails}
 use Rattle.rules.proofs.verdict.decryption_fails.Goals as goal
 

@@ -1,7 +1,5 @@
 -- Each test is what its function promises.
 use mathlib.Core.Path.{refl}
-use borrow.Author.Rules.{rules}
-use Rattle.octets.proofs.Laws.Steps.{the}
 use Rattle.rules.specs.Summary.{retired}
 use Rattle.rules.proofs.verdict.retired.Goals as goal
 

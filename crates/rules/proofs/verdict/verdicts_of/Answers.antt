@@ -1,6 +1,4 @@
 -- Each verdict is what its function promises.
-use borrow.Author.Rules.{rules}
-use Rattle.octets.proofs.Laws.Steps.{the}
 use Rattle.rules.specs.Summary.{verdicts_of}
 use Rattle.rules.proofs.verdict.verdicts_of.Goals as goal
 

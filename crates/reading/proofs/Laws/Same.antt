@@ -5,7 +5,7 @@ use mathlib.Core.Bool.{Bool, true, false}
 use mathlib.Core.List.{List}
 use Rattle.reading.specs.Same.{SameContents, SameHeader}
 use Rattle.rules.specs.Properties.{properties_parts}
-use Rattle.rules.specs.Reading.{SameSummary, fields_at, header_at, judge, security_header, start_at, summarize, summary_at}
+use Rattle.rules.specs.Reading.{SameSummary, fields_at, header_at, judge, security_header, start_at, summary_at}
 use Rattle.rules.specs.Security.{security_parts}
 use Rattle.rules.specs.Summary.{label_of, provider_name_of, summary_of}
 use Rattle.rules.specs.declared.properties.PropertiesFields.{PropertiesFields}

@@ -1,13 +1,7 @@
 -- The two bytes are those at the offset.
-use borrow.Author.Rules.{rules}
 use Rattle.octets.specs.Number.{le}
 use native.Mathlib.Numerals.{add-one}
 use Rattle.reading.proofs.field.u16_in.Goals as goal
-
-pub u16_of-requires : goal.u16_of-requires
-unfolding le
-u16_of-requires c =
-    search rules
 
 pub returns : goal.returns
 unfolding le

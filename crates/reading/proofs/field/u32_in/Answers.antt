@@ -1,13 +1,7 @@
 -- The four bytes are those at the offset.
-use borrow.Author.Rules.{rules}
 use Rattle.octets.specs.Number.{le}
 use native.Mathlib.Numerals.{add-one, add-two, add-three}
 use Rattle.reading.proofs.field.u32_in.Goals as goal
-
-pub u32_of-requires : goal.u32_of-requires
-unfolding le
-u32_of-requires c =
-    search rules
 
 pub returns : goal.returns
 unfolding le

@@ -1,8 +1,7 @@
 -- Each return is the first of P1 to P7 whose test holds.
 use Prim.Native.Nat.{ℕ, ◌+◌}
 use mathlib.Core.Path.{◌≡◌, ap, ap₂, ◌∙◌}
-use borrow.Author.Rules.{rules}
-use Rattle.octets.proofs.Laws.Steps.{steps, the, told}
+use Rattle.octets.proofs.Laws.Steps.{steps, told}
 use Rattle.rules.specs.Properties.{label_bytes, label_contents, properties_length, properties_parts, properties_steps}
 use Rattle.rules.specs.Refusal.{first_of}
 use Rattle.rules.specs.declared.properties.PropertiesFields.{PropertiesFields}
@@ -47,33 +46,8 @@ unfolding held_properties_number first_of
 returns-then-n-at c =
     rw properties-sizes (search steps depth 20)
 
-pub properties_fields-fields-requires : goal.properties_fields-fields-requires
-unfolding held_properties_number first_of
-properties_fields-fields-requires c =
-    search rules
-
-pub end_of-requires : goal.end_of-requires
-unfolding held_properties_number first_of
-end_of-requires c =
-    search rules
-
-pub sizes_number-number-requires : goal.sizes_number-number-requires
-unfolding held_properties_number first_of
-sizes_number-number-requires c =
-    search rules
-
 -- P2 to P6
 pub returns-then-number-ne-PASSED : goal.returns-then-number-ne-PASSED
 unfolding held_properties_number first_of
 returns-then-number-ne-PASSED c =
     let n = sizes (goal.at.returns-then-number-ne-PASSED c).After-sizes_number-number in rw properties-sizes (search (steps, told) depth 20)
-
-pub label_at-requires : goal.label_at-requires
-unfolding held_properties_number first_of
-label_at-requires c =
-    search rules
-
-pub label_contents-requires : goal.label_contents-requires
-unfolding held_properties_number first_of
-label_contents-requires c =
-    search rules

@@ -4,8 +4,6 @@ use mathlib.Core.Bool.{cond}
 use mathlib.Core.Path.{ap, ap₂, ◌∙◌}
 use native.Mathlib.Omega.{arith}
 use lib.Dec.{eqb}
-use borrow.Author.Rules.{rules}
-use Rattle.octets.proofs.Laws.Steps.{the}
 use Rattle.octets.specs.Number.{le}
 use Rattle.rules.specs.Security.{ST, security_parts}
 use Rattle.rules.specs.declared.security.SecurityFields.{SecurityFields}

@@ -1,9 +1,8 @@
 -- Each return is the first of S1 to S11 whose test holds.
 use Prim.Native.Nat.{ℕ}
 use mathlib.Core.Path.{◌≡◌, ap, ap₂, ◌∙◌}
-use borrow.Author.Rules.{rules}
 use Rattle.octets.specs.Part.{within}
-use Rattle.octets.proofs.Laws.Steps.{steps, the, told}
+use Rattle.octets.proofs.Laws.Steps.{steps, told}
 use Rattle.rules.specs.Refusal.{first_of}
 use Rattle.rules.specs.Security.{identity_head, security_contents, security_length, security_steps}
 use Rattle.reading.specs.Fields.{security_read}
@@ -36,36 +35,11 @@ unfolding held_security_number security_contents first_of
 returns-then-n-lt16 c =
     rw security-sizes (search steps depth 20)
 
-pub security_fields-fields-requires : goal.security_fields-fields-requires
-unfolding held_security_number security_contents first_of
-security_fields-fields-requires c =
-    search rules
-
-pub security_end-requires : goal.security_end-requires
-unfolding held_security_number security_contents first_of
-security_end-requires c =
-    search rules
-
-pub sizes_number-number-requires : goal.sizes_number-number-requires
-unfolding held_security_number security_contents first_of
-sizes_number-number-requires c =
-    search rules
-
 -- S2 to S9
 pub returns-then-number-ne-PASSED : goal.returns-then-number-ne-PASSED
 unfolding held_security_number security_contents first_of
 returns-then-number-ne-PASSED c =
     let n = sizes (goal.at.returns-then-number-ne-PASSED c).After-sizes_number-number in rw security-sizes (search (steps, told) depth 20)
-
-pub within-requires : goal.within-requires
-unfolding held_security_number security_contents first_of
-within-requires c =
-    search rules
-
-pub identity_head_fits-requires : goal.identity_head_fits-requires
-unfolding held_security_number security_contents first_of
-identity_head_fits-requires c =
-    search rules
 
 -- S10
 pub returns-then-not-identity_head_fits : goal.returns-then-not-identity_head_fits

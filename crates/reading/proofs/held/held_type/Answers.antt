@@ -1,5 +1,4 @@
 -- No provider info, no type.
-use borrow.Author.Rules.{rules}
 use Rattle.octets.proofs.Laws.Steps.{steps}
 use Rattle.reading.proofs.held.held_type.Goals as goal
 

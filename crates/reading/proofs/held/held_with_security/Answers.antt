@@ -1,8 +1,6 @@
 -- The summary of the header and the fields that are held.
 use mathlib.Core.Bool.{true}
 use mathlib.Core.Path.{ap₂, ◌∙◌}
-use borrow.Author.Rules.{rules}
-use Rattle.octets.proofs.Laws.Steps.{the}
 use Rattle.rules.specs.Properties.{properties_parts}
 use Rattle.rules.specs.Summary.{summary_of}
 use Rattle.rules.specs.declared.properties.PropertiesFields.{PropertiesFields}

@@ -2,8 +2,6 @@
 use mathlib.Core.Bool.{false}
 use mathlib.Core.Path.{ap, ap₂, ◌∙◌}
 use native.Mathlib.Omega.{arith}
-use borrow.Author.Rules.{rules}
-use Rattle.octets.proofs.Laws.Steps.{the}
 use Rattle.rules.specs.Properties.{properties_parts}
 use Rattle.rules.specs.Summary.{no_security, summary_of}
 use Rattle.rules.specs.declared.properties.PropertiesFields.{PropertiesFields}
@@ -13,13 +11,12 @@ use Rattle.reading.proofs.held.held_without_security.Goals as goal
 
 pub summary_of-requires : goal.summary_of-requires
 unfolding no_security
-summary_of-requires c = (
-  c.verdicts_of-verdicts.ensures,
-  (
-    c.properties_fields-fields.ensures.properties_sizes,
-    omega (arith, ap (λ (h : SecurityHeader). h.parts.length.0) c.no_security-security.ensures),
-  ),
-)
+summary_of-requires c =
+    record {
+      verdicts_value = c.verdicts_of-verdicts.ensures;
+      properties_sizes = c.properties_fields-fields.ensures.properties_sizes;
+      length_bound = omega (arith, ap (λ (h : SecurityHeader). h.parts.length.0) c.no_security-security.ensures);
+    }
 
 pub returns : goal.returns
 unfolding held_summary held_header

@@ -1,11 +1,8 @@
 -- The stand-in is shown where the label part has no bytes.
 use mathlib.Core.Path.{◌≡◌, ap, sym, ◌∙◌}
 use mathlib.Core.Bool.{Bool, true, false}
-use mathlib.Core.List.{List}
 use borrow.Author.Tests.{eq-eqb, ne_eqb}
-use borrow.Author.Rules.{rules}
 use lib.Dec.{eqb}
-use Rattle.octets.proofs.Laws.Steps.{the}
 use Rattle.rules.specs.Reading.{label_shown, summarize}
 use Rattle.rules.specs.Summary.{part_of}
 use Rattle.rules.specs.declared.section.Part.{Part}

@@ -1,9 +1,7 @@
 -- The header is the part that begins at the offset.
 use mathlib.Core.Path.{ap, ◌∙◌}
 use Rattle.octets.proofs.Laws.Part.{rest-drop}
-use Rattle.octets.proofs.Laws.Steps.{the}
 use Rattle.rules.specs.Properties.{properties_fields}
-use borrow.Author.Rules.{rules}
 use Rattle.reading.proofs.properties.fields_at.Goals as goal
 
 pub returns : goal.returns

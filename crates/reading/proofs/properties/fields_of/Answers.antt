@@ -1,9 +1,7 @@
 -- Each field is the number that its read promises; numbers of 8 and 32 bits are small.
 use native.Mathlib.Omega.{arith}
-use Rattle.octets.proofs.Laws.Steps.{the}
 use Rattle.rules.specs.Properties.{properties_fields}
 use Rattle.rules.proofs.Laws.Row.{le-one}
-use borrow.Author.Rules.{rules}
 use Rattle.reading.proofs.properties.fields_of.Goals as goal
 
 pub overflow_cast-result : goal.overflow_cast-result
@@ -12,7 +10,7 @@ overflow_cast-result c = omega (arith, c.shared_slice_known-1.given 1)
 pub returns : goal.returns
 unfolding properties_fields
 returns c = record {
-      value = simp (
+  value = simp (
     le-one,
     ← c.u16_in.ensures,
     ← c.u32_in.ensures,
@@ -23,5 +21,5 @@ returns c = record {
     ← c.u32_in-6.ensures,
     ← c.u32_in-7.ensures,
   );
-      properties_sizes = omega (arith, c.shared_slice_known-1.given 1);
-    }
+  properties_sizes = omega (arith, c.shared_slice_known-1.given 1);
+}

@@ -1,10 +1,8 @@
 -- The label follows the fixed bytes.
-use Prim.Native.Nat.{ℕ, ◌+◌}
+use Prim.Native.Nat.{◌+◌}
 use mathlib.Core.Path.{ap, ◌∙◌}
 use Rattle.octets.specs.Part.{within}
-use Rattle.octets.proofs.Laws.Steps.{the}
 use Rattle.rules.specs.Properties.{properties_parts}
-use borrow.Author.Rules.{rules}
 use Rattle.reading.proofs.properties.label_at.Goals as goal
 
 pub returns : goal.returns

@@ -5,13 +5,11 @@ use mathlib.Core.List.{List, []}
 use native.Mathlib.Omega.{arith}
 use lib.ListN.{drop, length, length-drop}
 use Rattle.octets.proofs.Laws.Part.{rest-drop, whole_out}
-use Rattle.octets.proofs.Laws.Steps.{the}
 use Rattle.octets.specs.Number.{le}
 use Rattle.rules.specs.Properties.{properties_fields}
 use Rattle.rules.specs.declared.properties.PropertiesFields.{PropertiesFields}
 use Rattle.reading.specs.Fields.{PropertiesSizes, properties_read}
 use Rattle.reading.proofs.Laws.Fields.{properties-read}
-use borrow.Author.Rules.{rules}
 use Rattle.reading.proofs.properties.properties_fields.Goals as goal
 
 -- too few bytes
@@ -24,11 +22,14 @@ none s at r e h = (
 )
 
 pub returns-then-s-start : goal.returns-then-s-start
-returns-then-s-start c = let a = c.args in none a.s.now a.at.0 _ c.no_fields.ensures (omega arith)
+returns-then-s-start c =
+    let a = c.args in
+    let n = none a.s.now a.at.0 _ c.no_fields.ensures (omega arith) in record { value = n.0; properties_sizes = n.1 }
 
 pub returns-then-header-lt56 : goal.returns-then-header-lt56
 returns-then-header-lt56 c =
-    let a = c.args in none a.s.now a.at.0 _ c.no_fields-then-header-lt56.ensures (omega arith)
+    let a = c.args in
+    let n = none a.s.now a.at.0 _ c.no_fields-then-header-lt56.ensures (omega arith) in record { value = n.0; properties_sizes = n.1 }
 
 pub returns : goal.returns
 returns c =

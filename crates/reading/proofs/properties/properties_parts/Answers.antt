@@ -3,11 +3,9 @@ use Prim.Native.Nat.{ℕ, ◌+◌}
 use mathlib.Core.Path.{◌≡◌, ap, ◌∙◌}
 use native.Mathlib.Omega.{arith}
 use Rattle.octets.specs.Padding.{padded, padding}
-use Rattle.octets.proofs.Laws.Steps.{the}
 use Rattle.rules.specs.Properties.{body_at, extension_at, label_bytes, properties_length}
 use Rattle.rules.specs.Security.{part}
 use Rattle.rules.proofs.Laws.Layout.{properties-parts}
-use borrow.Author.Rules.{rules}
 use Rattle.reading.proofs.properties.properties_parts.Goals as goal
 use Rattle.reading.proofs.properties.properties_parts.Goals.{After-part, Start}
 

@@ -1,14 +1,8 @@
 -- Each return is the first of P2 to P6 whose test holds.
-use borrow.Author.Rules.{rules}
 use Rattle.octets.proofs.Laws.Steps.{steps, told}
 use Rattle.rules.specs.Refusal.{first_of}
 use Rattle.reading.specs.Sizes.{sizes_number}
 use Rattle.reading.proofs.properties.sizes_number.Goals as goal
-
-pub properties_steps-number-requires : goal.properties_steps-number-requires
-unfolding sizes_number first_of
-properties_steps-number-requires c =
-    search rules
 
 -- P2 to P4
 pub returns-then-number-ne-PASSED : goal.returns-then-number-ne-PASSED

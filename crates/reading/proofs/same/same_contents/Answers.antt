@@ -1,10 +1,8 @@
 -- Label and name are the parts that were compared.
 use mathlib.Core.Path.{◌≡◌, ap, sym, ◌∙◌}
 use lib.ListN.{drop}
-use Rattle.octets.proofs.Laws.Steps.{the}
 use Rattle.rules.specs.Summary.{part_of}
 use Rattle.reading.proofs.Laws.Decided.{fails, holds, refuted, shown}
-use borrow.Author.Rules.{rules}
 use Rattle.reading.proofs.same.same_contents.Goals as goal
 use Rattle.reading.proofs.same.same_contents.Goals.{After-provider_name, After-provider_name-name}
 

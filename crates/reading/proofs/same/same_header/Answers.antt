@@ -1,7 +1,5 @@
 -- A part that differs refutes `SameHeader`; where none does, all four hold.
-use Rattle.octets.proofs.Laws.Steps.{the}
 use Rattle.reading.proofs.Laws.Decided.{fails, holds, refuted, shown}
-use borrow.Author.Rules.{rules}
 use Rattle.reading.proofs.same.same_header.Goals as goal
 
 pub returns-then-not-same_security : goal.returns-then-not-same_security

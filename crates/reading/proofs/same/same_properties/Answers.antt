@@ -34,28 +34,18 @@ returns-then-a-b-9 c = fails (λ e. c.if-a-b-9.true (ap (λ (x : PropertiesField
 pub returns-then-a-b-10 : goal.returns-then-a-b-10
 returns-then-a-b-10 c = fails (λ e. c.if-a-b-10.true (ap (λ (x : PropertiesFields). x.extension_size.0) e))
 
--- `search` does not reach the first tests from here: each is named from the one behind it
 pub returns : goal.returns
 returns c =
-    let nine = c in
-    let eight = nine.before.before.before in
-    let seven = eight.before.before.before in
-    let six = seven.before.before.before in
-    let five = six.before.before.before in
-    let four = five.before.before.before in
-    let three = four.before.before.before in
-    let two = three.before.before.before in
-    let one = two.before.before.before in
     holds (λ i.
     record {
-      flags = one.if1.false i;
-      label_length = record { 0 = two.if2.false i };
-      message_class = three.if3.false i;
-      body_type = four.if4.false i;
-      message_size = record { 0 = five.if5.false i };
-      allocation_body_size = record { 0 = six.if6.false i };
-      privacy_level = seven.if7.false i;
-      hash_algorithm = eight.if8.false i;
-      encryption_algorithm = nine.if9.false i;
+      flags = c.if-a-b.false i;
+      label_length = record { 0 = c.if-a-b-2.false i };
+      message_class = c.if-a-b-3.false i;
+      body_type = c.if-a-b-4.false i;
+      message_size = record { 0 = c.if-a-b-5.false i };
+      allocation_body_size = record { 0 = c.if-a-b-6.false i };
+      privacy_level = c.if-a-b-7.false i;
+      hash_algorithm = c.if-a-b-8.false i;
+      encryption_algorithm = c.if-a-b-9.false i;
       extension_size = record { 0 = c.if-a-b-10.false i };
     })

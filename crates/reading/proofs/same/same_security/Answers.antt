@@ -1,6 +1,5 @@
 -- A field that differs refutes equality; where none does, the records are equal field by field.
 use mathlib.Core.Path.{ap}
-use Rattle.octets.proofs.Laws.Steps.{the}
 use Rattle.rules.specs.declared.security.SecurityFields.{SecurityFields}
 use Rattle.reading.proofs.Laws.Decided.{fails, holds}
 use Rattle.reading.proofs.same.same_security.Goals as goal

@@ -4,8 +4,6 @@ use mathlib.Core.List.{List}
 use Prim.Native.Nat.{ℕ}
 use Rattle.octets.specs.Number.{le}
 use Rattle.octets.proofs.Laws.Part.{rest-drop}
-use Rattle.octets.proofs.Laws.Steps.{the}
-use borrow.Author.Rules.{rules}
 use Rattle.reading.proofs.section.application_tag.Goals as goal
 
 pub returns : goal.returns

@@ -2,12 +2,10 @@
 use mathlib.Core.Path.{◌≡◌, ap, sym, ◌∙◌}
 use native.Mathlib.Omega.{arith}
 use borrow.Author.Tests.{eq-eqb, ne_eqb}
-use Rattle.octets.proofs.Laws.Steps.{the}
 use Rattle.rules.specs.Place.{header_refusal}
 use Rattle.rules.specs.Reading.{base_judge, properties_number, security_number}
 use Rattle.rules.specs.Refusal.{bytes}
 use Rattle.reading.proofs.Laws.Fields.{start-passed}
-use borrow.Author.Rules.{rules}
 use Rattle.reading.proofs.section.base_judge.Goals as goal
 use Rattle.reading.proofs.section.base_judge.Goals.{Else-number-ne-PASSED}
 

@@ -1,9 +1,8 @@
 -- The caller says which case.
 use mathlib.Core.Path.{◌≡◌, sym, subst}
 use mathlib.Core.Bool.{Bool}
-use Rattle.octets.proofs.Laws.Steps.{steps, the}
+use Rattle.octets.proofs.Laws.Steps.{steps}
 use Rattle.rules.specs.Reading.{header_at, judge}
-use borrow.Author.Rules.{rules}
 use Rattle.reading.proofs.section.header_at.Goals as goal
 
 pub security_header-requires : goal.security_header-requires

@@ -1,5 +1,4 @@
 -- The place is found of what was judged.
-use borrow.Author.Rules.{rules}
 use Rattle.reading.proofs.section.judge.Goals as goal
 
 pub placed-requires : goal.placed-requires

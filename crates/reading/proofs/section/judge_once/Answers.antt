@@ -1,8 +1,6 @@
 -- The number picks the case; where it is 0, the place is where the header begins.
 use mathlib.Core.Path.{ap}
-use borrow.Author.Rules.{rules}
 use borrow.Author.Tests.{eq-eqb, ne_eqb}
-use Rattle.octets.proofs.Laws.Steps.{the}
 use Rattle.reading.specs.Case.{judged_once}
 use Rattle.reading.specs.declared.section.Judged.TheVariants.{Passed, Refused}
 use Rattle.reading.proofs.Laws.Passed.{none_told, place-told, some-told}

@@ -2,8 +2,6 @@
 use Prim.Native.Nat.{ℕ}
 use mathlib.Core.Path.{ap₂, ◌∙◌}
 use mathlib.Core.List.{List}
-use borrow.Author.Rules.{rules}
-use Rattle.octets.proofs.Laws.Steps.{the}
 use Rattle.rules.specs.Place.{name_break, refusal_at}
 use Rattle.reading.proofs.Laws.Located.{place-small, read-refused}
 use Rattle.reading.proofs.section.placed.Goals as goal

@@ -1,12 +1,11 @@
 -- Where a SecurityHeader stands first, its length.
 use Prim.Native.Nat.{◌+◌, min}
 use mathlib.Core.Path.{ap, ◌∙◌}
-use Rattle.octets.proofs.Laws.Steps.{steps, the}
+use Rattle.octets.proofs.Laws.Steps.{steps}
 use Rattle.rules.specs.Refusal.{limit}
 use Rattle.rules.specs.Security.{security_length}
 use Rattle.rules.specs.declared.security.SecurityFields.{SecurityFields}
 use Rattle.reading.specs.Fields.{start_read}
-use borrow.Author.Rules.{rules}
 use Rattle.reading.proofs.section.properties_start.Goals as goal
 
 pub returns-then-security_first : goal.returns-then-security_first

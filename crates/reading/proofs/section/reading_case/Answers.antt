@@ -1,72 +1,69 @@
 -- The refusal and the caller pick the case.
-use Prim.Native.Nat.{ℕ}
 use mathlib.Core.Path.{◌≡◌, ap, subst}
 use mathlib.Core.Bool.{Bool, true, false}
-use mathlib.Core.List.{List}
-use Rattle.octets.proofs.Laws.Steps.{the}
 use Rattle.rules.specs.Reading.{full_reading, header_at, judge, read}
 use Rattle.rules.proofs.Laws.Accepted.{summarize-passed}
 use Rattle.reading.specs.Case.{reading_case}
 use Rattle.reading.specs.declared.section.ReadingCase.TheVariants.{WithSecurity, WithoutSecurity}
 use Rattle.reading.proofs.Laws.Fields.{behind}
 use Rattle.reading.proofs.Laws.Passed.{none_told, refused-told}
-use borrow.Author.Rules.{rules}
 use Rattle.reading.proofs.section.reading_case.Goals as goal
-use Rattle.reading.proofs.section.reading_case.Goals.{Else-judged-ne-PASSED, Else-security_first, Then-security_first}
+use Rattle.reading.proofs.section.reading_case.Goals.{Else-security_first, Then-security_first}
 
 pub returns-then-judged-ne-PASSED : goal.returns-then-judged-ne-PASSED
 unfolding reading_case read full_reading
 returns-then-judged-ne-PASSED c = rw (refused-told _ _ c.base_judge-judged.ensures c.if-judged-ne-PASSED.true c.placed.ensures)
 
-input : Else-judged-ne-PASSED → List ℕ
-input c = c.args.s.now
-
-first : Else-judged-ne-PASSED → Bool
-first c = c.args.security_first
-
-none : (c : Else-judged-ne-PASSED) → (judge (first c) (input c)).number ≡ 0
-unfolding input first
-none c = none_told _ _ c.base_judge-judged.ensures c.if-judged-ne-PASSED.false
-
-secured : (c : Then-security_first) → (judge true (input c)).number ≡ 0
-unfolding first
-secured c = subst (λ (b : Bool). (judge b (input c)).number ≡ 0) c.if-security_first.true (none c)
+-- no step failed, whether a SecurityHeader stands first
+secured : (c : Then-security_first) → (judge true c.args.s.now).number ≡ 0
+secured c =
+    subst (λ (b : Bool). (judge b c.args.s.now).number ≡ 0) c.if-security_first.true
+    (none_told _ _ c.base_judge-judged.ensures c.if-judged-ne-PASSED.false)
 
 pub security_header-header-requires : goal.security_header-header-requires
-unfolding input
 security_header-header-requires c = secured (goal.at.security_header-header-requires c).Then-security_first
 
 pub section_verdicts-verdicts-requires : goal.section_verdicts-verdicts-requires
-unfolding input
-section_verdicts-verdicts-requires c = (behind _ _ _ (secured (goal.at.section_verdicts-verdicts-requires c).Then-security_first) c.security_header-header.ensures).fixed
+section_verdicts-verdicts-requires c =
+    (behind _ _ _ (secured (goal.at.section_verdicts-verdicts-requires c).Then-security_first) c.security_header-header.ensures).fixed
 
 pub section_of-requires : goal.section_of-requires
-unfolding input
 section_of-requires c =
-    (secured (goal.at.section_of-requires c).Then-security_first, (c.security_header-header.ensures, c.section_verdicts-verdicts.ensures))
+    record {
+      s_value = secured (goal.at.section_of-requires c).Then-security_first;
+      security_value = c.security_header-header.ensures;
+      verdicts_value = c.section_verdicts-verdicts.ensures;
+    }
 
 pub returns-then-security_first : goal.returns-then-security_first
-unfolding input first reading_case read full_reading
+unfolding reading_case read full_reading
 returns-then-security_first c =
-    let s = input (search) in
+    let s = c.args.s.now in
     let t = c.if-security_first.true in
     rw (t, summarize-passed true s (secured (goal.at.returns-then-security_first c).Then-security_first)) (ap WithSecurity c.section_of.ensures)
 
-plain : (c : Else-security_first) → (judge false (input c)).number ≡ 0
-unfolding first
-plain c = subst (λ (b : Bool). (judge b (input c)).number ≡ 0) c.if-security_first.false (none c)
+plain : (c : Else-security_first) → (judge false c.args.s.now).number ≡ 0
+plain c =
+    subst (λ (b : Bool). (judge b c.args.s.now).number ≡ 0) c.if-security_first.false
+    (none_told _ _ c.base_judge-judged.ensures c.if-judged-ne-PASSED.false)
 
 pub section_verdicts-verdicts-requires-2 : goal.section_verdicts-verdicts-requires-2
-unfolding input header_at
-section_verdicts-verdicts-requires-2 c = (behind _ false _ (plain (goal.at.section_verdicts-verdicts-requires-2 c).Else-security_first) c.no_security-header.ensures).fixed
+unfolding header_at
+section_verdicts-verdicts-requires-2 c =
+    (behind _ false _ (plain (goal.at.section_verdicts-verdicts-requires-2 c).Else-security_first) c.no_security-header.ensures).fixed
 
 pub section_of-requires-2 : goal.section_of-requires-2
-unfolding input header_at
-section_of-requires-2 c = (plain (goal.at.section_of-requires-2 c).Else-security_first, (c.no_security-header.ensures, c.section_verdicts-verdicts-2.ensures))
+unfolding header_at
+section_of-requires-2 c =
+    record {
+      s_value = plain (goal.at.section_of-requires-2 c).Else-security_first;
+      security_value = c.no_security-header.ensures;
+      verdicts_value = c.section_verdicts-verdicts-2.ensures;
+    }
 
 pub returns : goal.returns
-unfolding input first reading_case read full_reading
+unfolding reading_case read full_reading
 returns c =
-    let s = input (search) in
+    let s = c.args.s.now in
     let t = c.if-security_first.false in
     rw (t, summarize-passed false s (plain (goal.at.returns c).Else-security_first)) (ap WithoutSecurity c.section_of-2.ensures)

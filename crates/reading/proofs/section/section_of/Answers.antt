@@ -4,7 +4,6 @@ use mathlib.Core.Path.{◌≡◌, ap, ap₂, ◌∙◌}
 use native.Mathlib.Omega.{arith}
 use lib.ListN.{drop}
 use Rattle.octets.specs.Number.{le}
-use Rattle.octets.proofs.Laws.Steps.{the}
 use Rattle.rules.specs.Properties.{properties_fields, properties_parts}
 use Rattle.rules.specs.Reading.{fields_at, start_at, summary_at}
 use Rattle.rules.specs.Security.{part}
@@ -12,22 +11,26 @@ use Rattle.rules.specs.Summary.{section_of, summary_of, verdicts_of}
 use Rattle.rules.specs.declared.properties.PropertiesFields.{PropertiesFields}
 use Rattle.rules.specs.declared.security.SecurityHeader.{SecurityHeader}
 use Rattle.reading.proofs.Laws.Fields.{Behind, behind}
-use borrow.Author.Rules.{rules}
 use Rattle.reading.proofs.section.section_of.Goals as goal
 use Rattle.reading.proofs.section.section_of.Goals.{After-fields_at-properties, Start}
 
 place : (c : Start) → Behind c.args.security c.args.security_first c.args.s.now
-place c = behind _ _ _ c.requires.s_value c.requires.security_value.0
+place c = behind _ _ _ c.requires.s_value c.requires.security_value
 
 pub fields_at-properties-requires : goal.fields_at-properties-requires
 fields_at-properties-requires c = (place (goal.at.fields_at-properties-requires c).Start).fixed
 
 verdicts : (c : After-fields_at-properties) →
     c.args.verdicts ≡ verdicts_of c.args.security.fields c.fields_at-properties.result
-verdicts c = rw c.fields_at-properties.ensures.value c.requires.security_value.1
+verdicts c = rw c.fields_at-properties.ensures.value c.requires.verdicts_value
 
 pub summary_of-requires : goal.summary_of-requires
-summary_of-requires c = (verdicts c, (c.fields_at-properties.ensures.properties_sizes, omega (arith, (place (goal.at.summary_of-requires c).Start).small)))
+summary_of-requires c =
+    record {
+      verdicts_value = verdicts (goal.at.summary_of-requires c).After-fields_at-properties;
+      properties_sizes = c.fields_at-properties.ensures.properties_sizes;
+      length_bound = omega (arith, (place (goal.at.summary_of-requires c).Start).small);
+    }
 
 pub overflow_add-at : goal.overflow_add-at
 overflow_add-at c = omega (arith, place (goal.at.overflow_add-at c).Start)
@@ -46,7 +49,7 @@ returns c =
     c.summary_of.ensures
     ∙ ap₂
     (λ (h : SecurityHeader) (f : PropertiesFields). summary_of a.security_first h f (properties_parts h.parts.length.0 f))
-    c.requires.security_value.0 f in
+    c.requires.security_value f in
     let correlation = c.part.ensures ∙ ap (λ (p : ℕ). part (p + 4) 20) p in
     let tag = c.application_tag.ensures ∙ ap (λ (p : ℕ). le 4 (drop p s) 28) p in
     λ i. record { summary = summary i; correlation_id = correlation i; application_tag = tag i }

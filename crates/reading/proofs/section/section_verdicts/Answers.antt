@@ -1,8 +1,6 @@
 -- The verdicts on what is read behind the header.
 use mathlib.Core.Path.{ap, ◌∙◌}
-use Rattle.octets.proofs.Laws.Steps.{the}
 use Rattle.rules.specs.Summary.{verdicts_of}
-use borrow.Author.Rules.{rules}
 use Rattle.reading.proofs.section.section_verdicts.Goals as goal
 
 pub returns : goal.returns

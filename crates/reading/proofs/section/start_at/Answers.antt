@@ -1,10 +1,8 @@
 -- The caller says which case.
 use mathlib.Core.Bool.{Bool}
 use mathlib.Core.Path.{◌≡◌, sym, subst}
-use Rattle.octets.proofs.Laws.Steps.{steps, the}
 use Rattle.rules.specs.Reading.{header_at, security_number, start_at}
 use Rattle.rules.specs.Summary.{no_security}
-use borrow.Author.Rules.{rules}
 use Rattle.reading.proofs.section.start_at.Goals as goal
 
 pub header_length-requires : goal.header_length-requires

@@ -1,6 +1,5 @@
 -- The refusal picks the case.
 use mathlib.Core.Path.{◌≡◌, ap, sym, ◌∙◌}
-use Rattle.octets.proofs.Laws.Steps.{the}
 use Rattle.rules.specs.Reading.{judge}
 use Rattle.rules.specs.Summary.{section_of}
 use Rattle.rules.specs.declared.section.Section.{Section}
@@ -8,7 +7,6 @@ use Rattle.rules.specs.declared.section.Summarized.TheVariants.{Accepted}
 use Rattle.rules.proofs.Laws.Accepted.{summarize-passed}
 use Rattle.reading.proofs.Laws.Fields.{behind}
 use Rattle.reading.proofs.Laws.Passed.{none_told, refused-told}
-use borrow.Author.Rules.{rules}
 use Rattle.reading.proofs.section.summarize.Goals as goal
 use Rattle.reading.proofs.section.summarize.Goals.{Else-judged-ne-PASSED}
 
@@ -25,7 +23,12 @@ pub section_verdicts-requires : goal.section_verdicts-requires
 section_verdicts-requires c = (behind _ _ _ (none (goal.at.section_verdicts-requires c).Else-judged-ne-PASSED) c.header_at-header.ensures).fixed
 
 pub section_of-section-requires : goal.section_of-section-requires
-section_of-section-requires c = (none (goal.at.section_of-section-requires c).Else-judged-ne-PASSED, (c.header_at-header.ensures, c.section_verdicts.ensures))
+section_of-section-requires c =
+    record {
+      s_value = none (goal.at.section_of-section-requires c).Else-judged-ne-PASSED;
+      security_value = c.header_at-header.ensures;
+      verdicts_value = c.section_verdicts.ensures;
+    }
 
 pub returns : goal.returns
 unfolding section_of

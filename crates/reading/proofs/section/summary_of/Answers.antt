@@ -1,7 +1,5 @@
 -- Each field is what its function promises, or what the caller found.
-use Rattle.octets.proofs.Laws.Steps.{the}
 use Rattle.rules.specs.Summary.{summary_of}
-use borrow.Author.Rules.{rules}
 use Rattle.reading.proofs.section.summary_of.Goals as goal
 
 pub returns : goal.returns

@@ -1,13 +1,12 @@
 -- The padding is below 4, so the sum fits.
-use borrow.Author.Rules.{rules}
 use Rattle.octets.specs.Padding.{padded, padding}
 use native.Mathlib.Omega.{arith}
 use Rattle.reading.proofs.security.behind.Goals as goal
 
-pub padding-requires : goal.padding-requires
+pub overflow_add-result-2 : goal.overflow_add-result-2
 unfolding padded padding
-padding-requires c =
-    search rules
+overflow_add-result-2 c =
+    omega arith
 
 pub returns : goal.returns
 unfolding padded padding

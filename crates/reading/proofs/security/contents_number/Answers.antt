@@ -1,12 +1,10 @@
 -- Identity and provider info are the parts that the layout names.
-use mathlib.Core.Path.{◌≡◌, ap, ap₂, ◌∙◌}
+use mathlib.Core.Path.{ap, ap₂, ◌∙◌}
 use mathlib.Core.List.{List}
 use Prim.Native.Nat.{ℕ}
-use Rattle.octets.proofs.Laws.Steps.{the}
 use Rattle.rules.specs.Security.{provider_text, security_contents}
 use Rattle.rules.specs.Summary.{part_of}
 use Rattle.rules.specs.declared.security.SecurityParts.{SecurityParts}
-use borrow.Author.Rules.{rules}
 use Rattle.reading.proofs.security.contents_number.Goals as goal
 
 pub returns : goal.returns

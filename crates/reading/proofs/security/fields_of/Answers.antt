@@ -1,14 +1,12 @@
 -- Each field is the number that its read promises; numbers of 16 and 32 bits are small.
 use native.Mathlib.Omega.{arith}
-use Rattle.octets.proofs.Laws.Steps.{the}
 use Rattle.rules.specs.Security.{security_fields}
-use borrow.Author.Rules.{rules}
 use Rattle.reading.proofs.security.fields_of.Goals as goal
 
 pub returns : goal.returns
 unfolding security_fields
 returns c = record {
-      value = simp (
+  value = simp (
     ← c.u16_in.ensures,
     ← c.u16_in-2.ensures,
     ← c.u16_in-3.ensures,
@@ -16,5 +14,5 @@ returns c = record {
     ← c.u32_in.ensures,
     ← c.u32_in-2.ensures,
   );
-      security_sizes = omega arith;
-    }
+  security_sizes = omega arith;
+}

@@ -1,11 +1,9 @@
 -- The header that passed has its 16 fixed bytes in the input.
 use mathlib.Core.Bool.{true}
 use mathlib.Core.Path.{ap, ◌∙◌}
-use Rattle.octets.proofs.Laws.Steps.{the}
 use Rattle.rules.specs.Reading.{header_at, security_header, start_at}
 use Rattle.rules.specs.Security.{security_length, security_parts}
 use Rattle.rules.proofs.Laws.Accepted.{security-number}
-use borrow.Author.Rules.{rules}
 use Rattle.reading.proofs.security.header_length.Goals as goal
 
 pub fields_of-requires : goal.fields_of-requires

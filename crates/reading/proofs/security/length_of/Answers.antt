@@ -1,9 +1,7 @@
 -- The header's length is that of its parts.
 use mathlib.Core.Path.{ap}
-use Rattle.octets.proofs.Laws.Steps.{the}
 use Rattle.rules.specs.Security.{security_parts}
 use Rattle.rules.specs.declared.security.SecurityParts.{SecurityParts}
-use borrow.Author.Rules.{rules}
 use Rattle.reading.proofs.security.length_of.Goals as goal
 
 pub returns : goal.returns

@@ -1,8 +1,5 @@
 -- Every part is the empty one, and the fields are those of no header.
-use mathlib.Core.Path.{◌≡◌}
-use Rattle.octets.proofs.Laws.Steps.{the}
 use Rattle.rules.specs.Summary.{no_security}
-use borrow.Author.Rules.{rules}
 use Rattle.reading.proofs.security.no_security.Goals as goal
 
 pub returns : goal.returns

@@ -1,7 +1,5 @@
 -- The part, as the layout has it.
 use mathlib.Core.Path.{ap, ◌∙◌}
-use borrow.Author.Rules.{rules}
-use Rattle.octets.proofs.Laws.Steps.{the}
 use Rattle.rules.specs.Summary.{part_of}
 use Rattle.rules.specs.declared.security.SecurityParts.{SecurityParts}
 use Rattle.reading.proofs.security.provider_info.Goals as goal

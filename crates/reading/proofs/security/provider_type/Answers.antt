@@ -1,5 +1,4 @@
 -- The size picks the case.
-use borrow.Author.Rules.{rules}
 use Rattle.octets.proofs.Laws.Steps.{steps}
 use Rattle.reading.proofs.security.provider_type.Goals as goal
 

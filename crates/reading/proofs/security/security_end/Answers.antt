@@ -1,7 +1,5 @@
 -- The length of the fields that were read.
 use mathlib.Core.Path.{ap, ◌∙◌}
-use borrow.Author.Rules.{rules}
-use Rattle.octets.proofs.Laws.Steps.{the}
 use Rattle.rules.specs.Security.{security_length}
 use Rattle.reading.proofs.security.security_end.Goals as goal
 

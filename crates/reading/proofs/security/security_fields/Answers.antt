@@ -3,7 +3,6 @@ use mathlib.Core.Path.{ap, subst, sym, ◌∙◌}
 use native.Mathlib.Omega.{arith}
 use Rattle.octets.specs.Number.{le}
 use Rattle.octets.proofs.Laws.Part.{whole_out}
-use Rattle.octets.proofs.Laws.Steps.{the}
 use Rattle.rules.specs.Security.{security_fields}
 use Rattle.rules.specs.Summary.{no_security}
 use Rattle.reading.specs.Fields.{SecuritySizes, security_read}
@@ -22,6 +21,6 @@ returns-then-s-lt16 c =
 
 pub returns : goal.returns
 returns c = record {
-      value = c.fields_of.ensures.value ∙ sym (security-read c.args.s.now (omega arith));
-      security_sizes = c.fields_of.ensures.security_sizes;
-    }
+  value = c.fields_of.ensures.value ∙ sym (security-read c.args.s.now (omega arith));
+  security_sizes = c.fields_of.ensures.security_sizes;
+}

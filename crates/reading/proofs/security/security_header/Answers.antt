@@ -1,21 +1,17 @@
 -- The bytes that the header needs are in an accepted input (`header-bytes`).
-use mathlib.Core.Path.{◌≡◌, ap, sym, ◌∙◌}
+use mathlib.Core.Path.{◌≡◌, ap, ◌∙◌}
 use native.Mathlib.Omega.{arith}
-use Prim.Native.Nat.{ℕ}
 use mathlib.Core.Bool.{cond}
-use mathlib.Core.List.{List}
 use lib.ListN.{get_or}
 use lib.Dec.{eqb}
 use Rattle.octets.specs.Number.{le}
-use Rattle.octets.proofs.Laws.Steps.{the}
 use Rattle.rules.specs.Reading.{header_at, security_header}
 use Rattle.rules.specs.Security.{ST, security_fields, security_parts}
 use Rattle.rules.specs.declared.security.SecurityFields.{SecurityFields}
 use Rattle.rules.specs.declared.security.SecurityParts.{SecurityParts}
 use Rattle.reading.proofs.Laws.Fields.{HeaderBytes, header-bytes}
-use borrow.Author.Rules.{rules}
 use Rattle.reading.proofs.security.security_header.Goals as goal
-use Rattle.reading.proofs.security.security_header.Goals.{After-fields_of-fields, After-security_parts-parts, Start}
+use Rattle.reading.proofs.security.security_header.Goals.{After-security_parts-parts, Start}
 
 bytes_of : (c : Start) → HeaderBytes c.args.s.now
 bytes_of c = header-bytes c.args.s.now c.requires
@@ -29,27 +25,19 @@ bounds-s-17 c = omega (arith, (bytes_of (goal.at.bounds-s-17 c).Start).room)
 pub fields_of-fields-requires : goal.fields_of-fields-requires
 fields_of-fields-requires c = omega (arith, (bytes_of (goal.at.fields_of-fields-requires c).Start).room)
 
-input : After-fields_of-fields → List ℕ
-input c = c.args.s.now
-
-fields : (c : After-fields_of-fields) → c.fields_of-fields.result ≡ security_fields (input c)
-unfolding input
-fields c = c.fields_of-fields.ensures.value
-
-parts : (c : After-security_parts-parts) → c.security_parts-parts.result ≡ security_parts (security_fields (input c))
-parts c = c.security_parts-parts.ensures ∙ ap security_parts (fields c)
+parts : (c : After-security_parts-parts) → c.security_parts-parts.result ≡ security_parts (security_fields c.args.s.now)
+parts c = c.security_parts-parts.ensures ∙ ap security_parts c.fields_of-fields.ensures.value
 
 pub provider_type-requires : goal.provider_type-requires
-unfolding input
 provider_type-requires c =
     omega (arith, (bytes_of (goal.at.provider_type-requires c).Start).type-in, ap (λ (x : SecurityParts). x.provider_info.start.0) (parts (goal.at.provider_type-requires c).After-security_parts-parts))
 
 pub returns : goal.returns
-unfolding input header_at security_header security_parts
+unfolding header_at security_header security_parts
 returns c =
     let s = c.args.s.now in
     let b = bytes_of (goal.at.returns c).Start in
-    let f = fields (goal.at.returns c).After-fields_of-fields in
+    let f = c.fields_of-fields.ensures.value in
     let p = parts (goal.at.returns c).After-security_parts-parts in
     let revision =
     c.sid_byte.ensures

@@ -1,9 +1,8 @@
 -- Each return is the first of S1 to S11 whose test holds.
 use Prim.Native.Nat.{ℕ}
-use mathlib.Core.List.{List}
 use mathlib.Core.Path.{◌≡◌, ap, ap₂, subst, ◌∙◌}
 use lib.ListN.{length}
-use Rattle.octets.proofs.Laws.Steps.{steps, the, told}
+use Rattle.octets.proofs.Laws.Steps.{steps, told}
 use Rattle.rules.specs.Reading.{security_number}
 use Rattle.rules.specs.Refusal.{first_of}
 use Rattle.rules.specs.Security.{provider_text, security_contents, security_fields, security_length, security_parts, security_steps}
@@ -11,70 +10,41 @@ use Rattle.rules.specs.Summary.{part_of}
 use Rattle.rules.specs.declared.security.SecurityFields.{SecurityFields}
 use Rattle.reading.specs.Sizes.{sizes_number}
 use Rattle.reading.proofs.Laws.Sizes.{security-sizes}
-use borrow.Author.Rules.{rules}
 use Rattle.reading.proofs.security.security_number.Goals as goal
-use Rattle.reading.proofs.security.security_number.Goals.{After-fields_of-fields, After-sizes_number-number}
+use Rattle.reading.proofs.security.security_number.Goals.{After-sizes_number-number}
 
 -- what the steps look at is what the definitions read
-entry : After-fields_of-fields → List ℕ
-entry c = c.args.s.now
-
-fields : (c : After-fields_of-fields) → c.fields_of-fields.result ≡ security_fields (entry c)
-unfolding entry
-fields c = c.fields_of-fields.ensures.value
-
 sizes : (c : After-sizes_number-number)
-    → let s = entry (search) in
+    → let s = c.args.s.now in
     let f = security_fields s in c.sizes_number-number.result ≡ sizes_number (security_steps f) (length s) (security_length f)
-unfolding entry
 sizes c =
     let n = length c.args.s.now in
-    let f = fields (search) in
+    let f = c.fields_of-fields.ensures.value in
     c.sizes_number-number.ensures
     ∙ ap₂ (λ (k e : ℕ). sizes_number k n e) (ap security_steps f) (c.length_of.ensures ∙ ap security_length f)
 
 -- S10 and S11
 pub returns : goal.returns
-unfolding entry security_number first_of
+unfolding security_number first_of
 returns c =
     let n = sizes (goal.at.returns c).After-sizes_number-number in
-    let s = entry (search) in
+    let s = c.args.s.now in
     let last =
     subst
     (λ (g : SecurityFields).
     c.contents_number.result
     ≡ security_contents g (part_of s (security_parts g).sender_id) (provider_text (part_of s (security_parts g).provider_info)))
-    (fields (goal.at.returns c).After-fields_of-fields) c.contents_number.ensures in
+    c.fields_of-fields.ensures.value c.contents_number.ensures in
     rw security-sizes (search (steps, told) depth 20)
 
 -- S1
 pub returns-then-s-lt16 : goal.returns-then-s-lt16
-unfolding entry security_number first_of
+unfolding security_number first_of
 returns-then-s-lt16 c =
     rw security-sizes (search steps depth 20)
 
-pub fields_of-fields-requires : goal.fields_of-fields-requires
-unfolding entry security_number first_of
-fields_of-fields-requires c =
-    search rules
-
-pub length_of-requires : goal.length_of-requires
-unfolding entry security_number first_of
-length_of-requires c =
-    search rules
-
-pub sizes_number-number-requires : goal.sizes_number-number-requires
-unfolding entry security_number first_of
-sizes_number-number-requires c =
-    search rules
-
 -- S2 to S9
 pub returns-then-number-ne-PASSED : goal.returns-then-number-ne-PASSED
-unfolding entry security_number first_of
+unfolding security_number first_of
 returns-then-number-ne-PASSED c =
     let n = sizes (goal.at.returns-then-number-ne-PASSED c).After-sizes_number-number in rw security-sizes (search (steps, told) depth 20)
-
-pub contents_number-requires : goal.contents_number-requires
-unfolding entry security_number first_of
-contents_number-requires c =
-    search rules

@@ -2,10 +2,8 @@
 use Prim.Native.Nat.{ℕ}
 use mathlib.Core.Path.{ap, ◌∙◌}
 use native.Mathlib.Omega.{arith}
-use Rattle.octets.proofs.Laws.Steps.{the}
 use Rattle.rules.specs.Security.{cert_at, key_at, part, provider_at, security_length, signature_at}
 use Rattle.rules.proofs.Laws.Layout.{security-parts}
-use borrow.Author.Rules.{rules}
 use Rattle.reading.proofs.security.security_parts.Goals as goal
 use Rattle.reading.proofs.security.security_parts.Goals.{After-part, Start}
 

@@ -1,14 +1,8 @@
 -- Each return is the first of S2 to S9 whose test holds.
-use borrow.Author.Rules.{rules}
 use Rattle.octets.proofs.Laws.Steps.{steps, told}
 use Rattle.rules.specs.Refusal.{first_of}
 use Rattle.reading.specs.Sizes.{sizes_number}
 use Rattle.reading.proofs.security.sizes_number.Goals as goal
-
-pub security_steps-number-requires : goal.security_steps-number-requires
-unfolding sizes_number first_of
-security_steps-number-requires c =
-    search rules
 
 -- S2 to S7
 pub returns-then-number-ne-PASSED : goal.returns-then-number-ne-PASSED

@@ -2,7 +2,7 @@
 use Prim.Native.Nat.{ℕ, ◌≤◌}
 use mathlib.Core.Path.{◌≡◌, refl, sym, ap, subst, ◌∙◌}
 use mathlib.Core.Bool.{Bool}
-use mathlib.Core.List.{List, ◌++◌}
+use mathlib.Core.List.{List}
 use borrow.Author.Tests.{eq-eqb}
 use lib.ListN.{length, take, drop}
 use Rattle.octets.specs.Octets.{Octets}
@@ -11,7 +11,7 @@ use Rattle.octets.specs.declared.count.Bytes.{Bytes}
 use Rattle.rules.specs.Judged.{copy_of}
 use Rattle.rules.specs.Output.{writer_answer}
 use Rattle.rules.specs.Reading.{read, summarize}
-use Rattle.rules.specs.Refusal.{bytes, refusal}
+use Rattle.rules.specs.Refusal.{bytes}
 use Rattle.rules.specs.Support.{copy_answer, copy_output, support_answer, support_bytes}
 use Rattle.rules.specs.declared.section.Output.TheVariants.{Written}
 use Rattle.rules.specs.declared.section.Reading.TheVariants.{Accepted}

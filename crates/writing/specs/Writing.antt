@@ -1,10 +1,10 @@
 -- 01, "Writing": "It applies 28, then the same steps without S1, S9, P1, P6, then 13"
-use Rattle.std.specs.Prelude.{ℕ, ◌+◌, ◌%◌, Bool, not, ◌||◌, cond, List, [], ◌++◌, length, replicate, eqb, ltb}
+use Rattle.std.specs.Prelude.{ℕ, ◌+◌, ◌%◌, Bool, not, cond, List, [], ◌++◌, length, replicate, eqb, ltb}
 use Rattle.octets.specs.Padding.{padding}
 use Rattle.rules.specs.Output.{writer_answer, writer_output}
 use Rattle.rules.specs.Place.{header_refusal, name_break, section_refusal}
 use Rattle.rules.specs.Properties.{label_contents, properties_length, properties_row, properties_steps}
-use Rattle.rules.specs.Refusal.{bytes, first_of, limit}
+use Rattle.rules.specs.Refusal.{first_of, limit}
 use Rattle.rules.specs.Row.{row_bytes}
 use Rattle.rules.specs.Security.{part_too_large, provider_text, security_contents, security_length, security_row, security_steps}
 use Rattle.rules.specs.declared.properties.PropertiesFields.{PropertiesFields}

@@ -1,7 +1,6 @@
 -- What a section that no step refuses makes of an output.
 use Prim.Native.Nat.{ℕ, ◌≤◌}
-use mathlib.Core.Path.{◌≡◌, refl, ap, sym, ◌∙◌}
-use mathlib.Core.Bool.{Bool, true, false, cond}
+use mathlib.Core.Path.{◌≡◌, ap, sym, ◌∙◌}
 use mathlib.Core.List.{List}
 use lib.ListN.{length, take, drop}
 use lib.Seq.{drop_at, take_at}
@@ -9,9 +8,8 @@ use Rattle.octets.specs.Over.{over}
 use Rattle.octets.specs.declared.count.Bytes.{Bytes}
 use Rattle.rules.specs.Output.{writer_output}
 use Rattle.rules.specs.Refusal.{bytes}
-use Rattle.rules.specs.declared.refusal.Refusal.{Refusal}
 use Rattle.rules.specs.declared.section.Output.{Output}
-use Rattle.rules.specs.declared.section.Output.TheVariants.{Written, Refused}
+use Rattle.rules.specs.declared.section.Output.TheVariants.{Written}
 use Rattle.rules.proofs.Laws.Output.{HasWritten, answer-written, has-written}
 use Rattle.writing.specs.Given.{Given}
 use Rattle.writing.specs.Writing.{layout_length, section_bytes, write_answer, write_bytes, write_refusal}

@@ -1,6 +1,4 @@
 -- Each value is that of the definition.
-use borrow.Author.Rules.{rules}
-use Rattle.octets.proofs.Laws.Steps.{the}
 use Rattle.requests.specs.Carried.{section_properties}
 use Rattle.requests.specs.declared.properties.Handling.TheVariants.{NotKnown}
 use Rattle.requests.proofs.carried.section_properties.Goals as goal

@@ -1,14 +1,13 @@
 -- The arms are those of `allocation_or`.
-use borrow.Author.Rules.{rules}
 use Rattle.requests.specs.Defaults.{allocation_or}
 use Rattle.requests.proofs.section.allocation_of.Goals as goal
 
 pub returns-in-Absent : goal.returns-in-Absent
 unfolding allocation_or
 returns-in-Absent c =
-    rw c.enum_told-1.given.1
+    rw c.in-Absent.is
 
 pub returns-in-Given : goal.returns-in-Given
 unfolding allocation_or
 returns-in-Given c =
-    rw c.given-1.given.1
+    rw c.in-Given.is

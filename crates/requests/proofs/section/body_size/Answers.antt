@@ -1,14 +1,13 @@
 -- The arms are those of `body_or`.
-use borrow.Author.Rules.{rules}
 use Rattle.requests.specs.Defaults.{body_or}
 use Rattle.requests.proofs.section.body_size.Goals as goal
 
 pub returns-in-Absent : goal.returns-in-Absent
 unfolding body_or
 returns-in-Absent c =
-    rw c.enum_told-1.given.1
+    rw c.in-Absent.is
 
 pub returns-in-Given : goal.returns-in-Given
 unfolding body_or
 returns-in-Given c =
-    rw c.enum_told-in-Given-1.given.1
+    rw c.in-Given.is

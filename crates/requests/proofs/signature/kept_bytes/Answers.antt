@@ -1,7 +1,5 @@
 -- The last bytes are what is left when the others are dropped.
 use native.Mathlib.Omega.{arith}
-use borrow.Author.Rules.{rules}
-use Rattle.octets.proofs.Laws.Steps.{the}
 use Rattle.requests.proofs.Laws.Signature.{length-signature}
 use Rattle.requests.proofs.signature.kept_bytes.Goals as goal
 

@@ -1,12 +1,10 @@
 -- The loop's invariant: none of the first `i` units is zero. The measure is what is left of them.
-use Prim.Native.Nat.{◌-◌, ◌≤◌}
-use mathlib.Core.Path.{◌≡◌, refl, ap, sym, ◌∙◌}
-use mathlib.Core.Bool.{true}
+use mathlib.Core.Path.{refl, ap, sym, ◌∙◌}
 use native.Mathlib.Numerals.{add-one}
 use native.Mathlib.Omega.{arith}
 use borrow.Author.Rules.{rules}
 use borrow.Author.Tests.{ne_eqb}
-use lib.ListN.{length, get_or, take, get_or-eq_default}
+use lib.ListN.{length, get_or, get_or-eq_default}
 use lib.Seq.{take_all}
 use Rattle.requests.specs.Steps.{without_zero}
 use Rattle.requests.proofs.Laws.Text.{before_zero-counted, without_zero-more}

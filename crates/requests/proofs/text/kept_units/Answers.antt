@@ -3,7 +3,6 @@ use mathlib.Core.Path.{ap, ◌∙◌}
 use native.Mathlib.Omega.{arith}
 use borrow.Author.Rules.{rules}
 use lib.ListN.{length, length-take}
-use Rattle.octets.proofs.Laws.Steps.{the}
 use Rattle.requests.specs.Defaults.{title_of}
 use Rattle.requests.proofs.Laws.Text.{first-before_zero, title-short}
 use Rattle.requests.proofs.text.kept_units.Goals as goal

@@ -1,8 +1,6 @@
 -- At most 249 units are kept, so the count fits with the null.
 use mathlib.Core.Path.{sym, ◌∙◌}
 use native.Mathlib.Omega.{arith}
-use borrow.Author.Rules.{rules}
-use Rattle.octets.proofs.Laws.Steps.{the}
 use Rattle.requests.specs.Defaults.{title_of}
 use Rattle.requests.proofs.Laws.Text.{label-none, label-some}
 use Rattle.requests.proofs.Laws.Title.{title-small}

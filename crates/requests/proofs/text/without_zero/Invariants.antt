@@ -1,12 +1,8 @@
 -- The loop's invariant: `none` says that none of the first `i` units is zero. The measure is what is left of them.
 use Prim.Native.Nat.{◌-◌, ◌≤◌}
-use mathlib.Core.Path.{◌≡◌, refl, ap, ◌∙◌}
-use native.Mathlib.Numerals.{add-one}
-use native.Mathlib.Omega.{arith}
+use mathlib.Core.Path.{◌≡◌}
 use lib.ListN.{length, take}
-use lib.Seq.{take_all}
 use Rattle.requests.specs.Steps.{without_zero}
-use Rattle.requests.proofs.Laws.Text.{without_zero-more}
 use Rattle.requests.proofs.text.without_zero.Given as goal
 
 abbrev pub invariant-loop-i : goal.invariant-loop-i

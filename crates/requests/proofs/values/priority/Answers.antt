@@ -1,5 +1,4 @@
 -- By hand, so that a wrong default is told by its number.
-use borrow.Author.Rules.{rules}
 use Rattle.requests.proofs.values.priority.Goals as goal
 
 pub returns : goal.returns

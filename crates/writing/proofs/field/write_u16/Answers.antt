@@ -6,9 +6,7 @@ use native.Mathlib.Omega.{arith}
 use lib.ListN.{length-set}
 use Rattle.octets.specs.Over.{over_at}
 use Rattle.octets.proofs.Laws.Over.{over-one, over-more}
-use Rattle.octets.proofs.Laws.Steps.{the}
 use Rattle.writing.proofs.Laws.Bytes.{two_bytes}
-use borrow.Author.Rules.{rules}
 use Rattle.writing.proofs.field.write_u16.Goals as goal
 
 pub returns : goal.returns
@@ -19,7 +17,7 @@ returns c =
     let at = a.at.0 in
     over-more at (low ∷ []) out (at + 1) (a.n / 256) (over-one at low out (omega arith)) refl (omega arith)
     (simp length-set (omega arith))
-    ∙ ap (λ (bs : List ℕ). over_at at bs out) (two_bytes a.n c.fits.n.fits)
+    ∙ ap (λ (bs : List ℕ). over_at at bs out) (two_bytes a.n c.ranges.n.fits)
 
 pub bounds-out-i-2 : goal.bounds-out-i-2
 bounds-out-i-2 c =

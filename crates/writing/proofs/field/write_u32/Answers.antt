@@ -6,9 +6,7 @@ use native.Mathlib.Omega.{arith}
 use Rattle.octets.specs.Number.{to_le}
 use Rattle.octets.specs.Over.{over_at}
 use Rattle.octets.proofs.Laws.Over.{over-append}
-use Rattle.octets.proofs.Laws.Steps.{the}
 use Rattle.writing.proofs.Laws.Bytes.{four_bytes}
-use borrow.Author.Rules.{rules}
 use Rattle.writing.proofs.field.write_u32.Goals as goal
 
 pub returns : goal.returns

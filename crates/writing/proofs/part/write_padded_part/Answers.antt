@@ -7,7 +7,6 @@ use lib.ListN.{length, replicate}
 use Rattle.octets.specs.Padding.{padded}
 use Rattle.octets.specs.Over.{over}
 use Rattle.octets.proofs.Laws.Over.{copied-fits, written-first, written-zeros}
-use Rattle.octets.proofs.Laws.Steps.{the}
 use Rattle.writing.specs.Writing.{padded_part}
 use borrow.Author.Rules.{rules}
 use Rattle.writing.proofs.part.write_padded_part.Goals as goal
@@ -21,7 +20,7 @@ returns c =
     let pad = c.padding-zeros in
     let last = c.zero in
     let w1 = written-first (c.copy.ensures ∙ copied-fits part out (omega arith)) in
-    let w2 = written-zeros (length part) pad.result.0 last.new.0 w1 refl (omega arith) last.ensures in record {
+    let w2 = written-zeros (length part) pad.result.0 last.new.out w1 refl (omega arith) last.ensures in record {
       result_value = omega arith;
       out_after = w2.bytes ∙ ap (λ (n : ℕ). over (part ++ replicate n 0) out) pad.ensures;
     }
@@ -40,3 +39,13 @@ pub zero-requires : goal.zero-requires
 unfolding padded
 zero-requires c =
     search rules
+
+pub overflow_add-size : goal.overflow_add-size
+unfolding padded
+overflow_add-size c =
+    omega arith
+
+pub slice_bounds-zero-end : goal.slice_bounds-zero-end
+unfolding padded
+slice_bounds-zero-end c =
+    omega arith

@@ -4,9 +4,7 @@ use mathlib.Core.Path.{◌≡◌}
 use native.Mathlib.Omega.{arith}
 use lib.ListN.{length}
 use Rattle.octets.specs.declared.count.Units.{Units}
-use Rattle.octets.proofs.Laws.Steps.{the}
 use Rattle.writing.specs.Given.{properties_from}
-use borrow.Author.Rules.{rules}
 use Rattle.writing.proofs.properties.properties_given.Goals as goal
 
 pub returns : goal.returns

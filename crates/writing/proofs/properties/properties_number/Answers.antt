@@ -4,23 +4,18 @@ use mathlib.Core.Path.{◌≡◌, ap, ◌∙◌}
 use native.Mathlib.Omega.{arith}
 use borrow.Author.Tests.{eq-eqb, lt-ltb}
 use lib.ListN.{length}
-use Rattle.octets.proofs.Laws.Steps.{steps, the, told}
+use Rattle.octets.proofs.Laws.Steps.{steps, told}
 use Rattle.rules.specs.Properties.{properties_length, properties_steps}
 use Rattle.rules.specs.Refusal.{first_of, limit}
 use Rattle.rules.specs.declared.properties.PropertiesFields.{PropertiesFields}
 use Rattle.writing.specs.Given.{properties_from}
 use Rattle.writing.specs.Writing.{end_number}
-use borrow.Author.Rules.{rules}
 use Rattle.writing.proofs.properties.properties_number.Goals as goal
-use Rattle.writing.proofs.properties.properties_number.Goals.{After-properties_given-fields, After-properties_steps-number, After-section_end, Start}
+use Rattle.writing.proofs.properties.properties_number.Goals.{After-properties_given-fields, After-properties_steps-number, After-section_end}
 
 pub returns-then-label-ne0 : goal.returns-then-label-ne0
 unfolding end_number
 returns-then-label-ne0 c = search steps depth 20
-
--- the fields that the steps look at
-abbrev fields : Start → PropertiesFields
-fields c = properties_from c.args.values c.args.label.now c.args.extension.now c.args.body.now
 
 -- P2
 label-long : (f : PropertiesFields) → 250 < f.label_length.0 → properties_steps f ≡ 9
@@ -31,13 +26,13 @@ pub returns-then-bytes-label : goal.returns-then-bytes-label
 unfolding end_number first_of properties_from
 returns-then-bytes-label c =
     let long : 250 < length c.args.label.now / 2 = omega (arith, c.bytes.ensures) in
-    rw (eq-eqb _ 0 c.if-label-ne0.false, label-long (fields (goal.at.returns-then-bytes-label c).Start) long)
+    rw (eq-eqb _ 0 c.if-label-ne0.false, label-long (properties_from c.args.values c.args.label.now c.args.extension.now c.args.body.now) long)
 
 even : (c : After-properties_given-fields) → length c.args.label.now % 2 ≡ 0
 even c = c.if-label-ne0.false
 
 -- P2 to P4 on the fields that the call was given
-steps-told : (c : After-properties_steps-number) → c.properties_steps-number.result ≡ properties_steps (fields c.Start)
+steps-told : (c : After-properties_steps-number) → c.properties_steps-number.result ≡ properties_steps (properties_from c.args.values c.args.label.now c.args.extension.now c.args.body.now)
 steps-told c = c.properties_steps-number.ensures ∙ ap properties_steps c.properties_given-fields.ensures
 
 pub returns-then-number-ne-PASSED : goal.returns-then-number-ne-PASSED
@@ -48,7 +43,7 @@ returns-then-number-ne-PASSED c =
 
 -- where the section ends
 end-told : (c : After-section_end)
-    → c.section_end.result.0 ≡ min (limit + 1) (c.args.at.0 + properties_length (fields c.Start))
+    → c.section_end.result.0 ≡ min (limit + 1) (c.args.at.0 + properties_length (properties_from c.args.values c.args.label.now c.args.extension.now c.args.body.now))
 end-told c =
     let at = c.args.at.0 in
     c.section_end.ensures
@@ -60,7 +55,7 @@ unfolding end_number first_of
 returns-then-section_end-gt-LIMIT c =
     let n = steps-told (goal.at.returns-then-section_end-gt-LIMIT c).After-properties_steps-number in
     let units = even (goal.at.returns-then-section_end-gt-LIMIT c).After-properties_given-fields in
-    let long : limit < c.args.at.0 + properties_length (fields (goal.at.returns-then-section_end-gt-LIMIT c).Start) = omega (arith, end-told (goal.at.returns-then-section_end-gt-LIMIT c).After-section_end) in
+    let long : limit < c.args.at.0 + properties_length (properties_from c.args.values c.args.label.now c.args.extension.now c.args.body.now) = omega (arith, end-told (goal.at.returns-then-section_end-gt-LIMIT c).After-section_end) in
     search (steps, told) depth 20
 
 pub returns : goal.returns
@@ -68,7 +63,7 @@ unfolding end_number first_of
 returns c =
     let n = steps-told (goal.at.returns c).After-properties_steps-number in
     let units = even (goal.at.returns c).After-properties_given-fields in
-    let small : c.args.at.0 + properties_length (fields (goal.at.returns c).Start) ≤ limit = omega (arith, end-told (goal.at.returns c).After-section_end) in
+    let small : c.args.at.0 + properties_length (properties_from c.args.values c.args.label.now c.args.extension.now c.args.body.now) ≤ limit = omega (arith, end-told (goal.at.returns c).After-section_end) in
     search (steps, told) depth 20
 
 pub properties_given-fields-requires : goal.properties_given-fields-requires

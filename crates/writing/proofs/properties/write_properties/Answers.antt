@@ -5,13 +5,11 @@ use mathlib.Core.List.{List, [], ◌++◌}
 use native.Mathlib.Omega.{arith}
 use lib.ListN.{length, length-append}
 use Rattle.octets.specs.Over.{over}
-use Rattle.octets.specs.Padding.{padded, padding}
+use Rattle.octets.specs.Padding.{padded}
 use Rattle.octets.proofs.Laws.Over.{written-first, written-rest, written-zeros}
-use Rattle.octets.proofs.Laws.Steps.{the}
 use Rattle.writing.specs.Fixed.{properties_tail}
 use Rattle.writing.specs.Given.{fixed}
 use Rattle.writing.proofs.Laws.Header.{length-properties_head, length-properties_tail, properties-bytes}
-use borrow.Author.Rules.{rules}
 use Rattle.writing.proofs.properties.write_properties.Goals as goal
 use Rattle.writing.proofs.properties.write_properties.Goals.{After-padding-zeros, Start}
 
@@ -62,15 +60,15 @@ returns c =
     let n = length label + length extension + length body in
     let all = label ++ (extension ++ body) in
     let fits : 56 + n ≤ length a.out.now = reach label extension body a.out.now (parts-room (goal.at.returns c).Start) in
-    let twenty : length id ≡ 20 = c.good.1.0.1.0.1 in
+    let twenty : length id ≡ 20 = omega arith in
     let w1 = written-first head.ensures in
     let w2 =
-    written-rest 32 24 (properties_tail (fixed f [] 0)) tail.new.1.0 w1 (sym (length-properties_head f id tag twenty))
+    written-rest 32 24 (properties_tail (fixed f [] 0)) tail.new.out w1 (sym (length-properties_head f id tag twenty))
     (length-properties_tail f) (before-32 n _ fits) tail.ensures in
     let w3 =
-    written-rest 56 n all parts.new.1.1.1.0 w2 refl (parts-length label extension body) (before-56 n _ fits) parts.ensures in
+    written-rest 56 n all parts.new.out w2 refl (parts-length label extension body) (before-56 n _ fits) parts.ensures in
     let w4 =
-    written-zeros (56 + length label + length extension + length body) pad.result.0 zeros.new.0 w3
+    written-zeros (56 + length label + length extension + length body) pad.result.0 zeros.new.out w3
     (ends label extension body) (padded-room (goal.at.returns c).After-padding-zeros) zeros.ensures in
     w4.bytes
     ∙ ap (λ (bs : List ℕ). over bs a.out.now) (properties-bytes f id tag pad.result.0 label extension body twenty pad.ensures)

@@ -6,8 +6,6 @@ use native.Mathlib.Omega.{arith}
 use lib.ListN.{length}
 use Rattle.octets.specs.Over.{over}
 use Rattle.octets.proofs.Laws.Over.{copied-fits, written-copied, written-first}
-use Rattle.octets.proofs.Laws.Steps.{the}
-use borrow.Author.Rules.{rules}
 use Rattle.writing.proofs.properties.write_properties_parts.Goals as goal
 
 pub returns : goal.returns
@@ -21,6 +19,6 @@ returns c =
     let c2 = c.copy-2 in
     let c3 = c.copy_long in
     let w1 = written-first (c.copy.ensures ∙ copied-fits label out (omega (arith, h))) in
-    let w2 = written-copied (length label) extension c2.new.1.0 w1 refl (omega (arith, h)) c2.ensures in
-    let w3 = written-copied (length label + length extension) body c3.new.1.0 w2 refl (omega (arith, h)) c3.ensures in
+    let w2 = written-copied (length label) extension c2.new.out w1 refl (omega (arith, h)) c2.ensures in
+    let w3 = written-copied (length label + length extension) body c3.new.out w2 refl (omega (arith, h)) c3.ensures in
     w3.bytes ∙ ap (λ (bs : List ℕ). over bs out) (append_assoc label extension body)

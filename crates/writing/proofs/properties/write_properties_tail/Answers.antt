@@ -4,19 +4,13 @@ use mathlib.Core.Path.{ap, ◌∙◌}
 use mathlib.Core.List.{List}
 use native.Mathlib.Omega.{arith}
 use Rattle.octets.proofs.Laws.Over.{written_none}
-use Rattle.octets.proofs.Laws.Steps.{the}
 use Rattle.octets.specs.Over.{over}
 use Rattle.writing.proofs.Laws.Header.{number-next, tail-stored}
 use Rattle.writing.proofs.properties.write_properties_tail.Goals as goal
-use Rattle.writing.proofs.properties.write_properties_tail.Goals.{After-write_u32-3, Start}
-
--- where the function begins
-abbrev begun : After-write_u32-3 → Start
-begun c = the Start (search)
 
 pub returns : goal.returns
 returns c =
-    let a = (begun (search)).args in
+    let a = c.args in
     let f = a.f in
     let none = written_none a.out.now in
     let size = number-next 4 f.message_size.0 none c.write_u32.ensures in
@@ -49,20 +43,20 @@ write_u32-requires-3 c =
 
 pub write_u32-requires-4 : goal.write_u32-requires-4
 write_u32-requires-4 c =
-    omega (arith, (begun (search)).requires)
+    omega (arith, c.requires)
 
 pub write_u32-requires-5 : goal.write_u32-requires-5
 write_u32-requires-5 c =
-    omega (arith, (begun (search)).requires)
+    omega (arith, c.requires)
 
 pub overflow_cast-f-3 : goal.overflow_cast-f-3
 overflow_cast-f-3 c =
-    omega (arith, (begun (search)).requires)
+    omega (arith, c.requires)
 
 pub write_u32-requires-6 : goal.write_u32-requires-6
 write_u32-requires-6 c =
-    omega (arith, (begun (search)).requires)
+    omega (arith, c.requires)
 
 pub shape_of-out : goal.shape_of-out
 shape_of-out c =
-    omega (arith, (begun (search)).requires)
+    omega (arith, c.requires)

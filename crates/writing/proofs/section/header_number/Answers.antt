@@ -1,7 +1,6 @@
 -- 28 and the steps, where a SecurityHeader stands first.
 use Rattle.octets.proofs.Laws.Steps.{steps}
 use Rattle.writing.specs.Writing.{header_number}
-use borrow.Author.Rules.{rules}
 use Rattle.writing.proofs.section.header_number.Goals as goal
 
 pub returns-then-security_first : goal.returns-then-security_first

@@ -4,28 +4,26 @@ use mathlib.Core.Path.{◌≡◌, ap, sym, ◌∙◌}
 use mathlib.Core.List.{[]}
 use native.Mathlib.Omega.{arith}
 use borrow.Author.Tests.{eq-eqb, ne_eqb}
-use Rattle.octets.proofs.Laws.Steps.{the}
 use Rattle.rules.specs.Place.{header_refusal}
 use Rattle.rules.specs.Refusal.{bytes, limit}
 use Rattle.rules.specs.declared.security.SecurityFields.{SecurityFields}
 use Rattle.writing.specs.Given.{Given, given, properties_from, security_given}
 use Rattle.writing.specs.Writing.{base_judge_given, end_number, header_number, start_of}
 use Rattle.writing.proofs.Laws.Placed.{header-start}
-use borrow.Author.Rules.{rules}
 use Rattle.writing.proofs.section.judge.Goals as goal
-use Rattle.writing.proofs.section.judge.Goals.{After-header_number-number, Start}
+use Rattle.writing.proofs.section.judge.Goals.{After-header_number-number}
 
 -- the SecurityHeader that is judged
-abbrev section : Start → Given
+abbrev section : After-header_number-number → Given
 section c =
     let a = c.args in
     given a.values a.sender_id.now a.encryption_key.now a.signature.now a.sender_cert.now a.provider_info.now [] [] []
 
 number-told : (c : After-header_number-number)
-    → let g = section c.Start in
+    → let g = section c in
     c.header_number-number.result ≡ header_number c.args.values.security_first (security_given g) g.sender_id g.provider_info
 number-told c =
-    let g = section c.Start in
+    let g = section c in
     c.header_number-number.ensures
     ∙ ap (λ (f : SecurityFields). header_number c.args.values.security_first f g.sender_id g.provider_info)
     c.security_given-security.ensures
@@ -38,7 +36,7 @@ pub returns : goal.returns
 unfolding base_judge_given header_refusal
 returns c =
     let a = c.args in
-    let g = section (goal.at.returns c).Start in
+    let g = section (goal.at.returns c).After-header_number-number in
     let first = a.values.security_first in
     let none = sym (number-told (goal.at.returns c).After-header_number-number) ∙ c.if-number-ne-PASSED.false in
     let small = header-start first g none in

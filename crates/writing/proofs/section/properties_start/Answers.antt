@@ -1,8 +1,6 @@
 -- The SecurityHeader's length, where one stands first.
 use mathlib.Core.Path.{◌≡◌}
 use mathlib.Core.Bool.{true, false}
-use Rattle.octets.proofs.Laws.Steps.{the}
-use borrow.Author.Rules.{rules}
 use Rattle.writing.proofs.section.properties_start.Goals as goal
 
 pub returns-then-security_first : goal.returns-then-security_first

@@ -1,7 +1,6 @@
 -- The SecurityHeader is written, where one is, and then the rest.
 use Prim.Native.Nat.{ℕ}
 use mathlib.Core.Path.{◌≡◌, refl, sym, ap, subst, ◌∙◌}
-use mathlib.Core.Logic.{⊎_elim}
 use mathlib.Core.Bool.{Bool, true, false, cond}
 use mathlib.Core.List.{List, [], ◌++◌}
 use native.Mathlib.Omega.{arith}
@@ -9,7 +8,6 @@ use lib.ListN.{length, length-drop}
 use Rattle.octets.specs.Over.{over}
 use Rattle.octets.proofs.Laws.Over.{Written, written-length, written-rest}
 use Rattle.octets.proofs.Laws.Part.{rest-drop}
-use Rattle.octets.proofs.Laws.Steps.{the}
 use Rattle.rules.specs.Properties.{properties_row}
 use Rattle.rules.specs.Row.{row_bytes}
 use Rattle.rules.specs.Security.{security_row}
@@ -18,12 +16,11 @@ use Rattle.rules.specs.declared.security.SecurityFields.{SecurityFields}
 use Rattle.writing.specs.Fixed.{PropertiesSized, SecuritySized}
 use Rattle.writing.specs.Given.{Given, fixed, held, properties_given, security_given}
 use Rattle.writing.specs.Writing.{padded_part, properties_bytes, properties_fixed, section_bytes, security_bytes, security_fixed, security_parts_bytes}
-use borrow.Author.Rules.{rules}
 use Rattle.writing.proofs.section.write_headers.Goals as goal
-use Rattle.writing.proofs.section.write_headers.Goals.{Joined-first, Start}
+use Rattle.writing.proofs.section.write_headers.Goals.{Joined-first, else-first, then-first}
 
 -- the section that is written
-abbrev section : Start → Given
+abbrev section : Joined-first → Given
 section c =
     let a = c.args in
     held a.values a.sender_id a.encryption_key a.signature a.sender_cert a.provider_info a.label a.extension a.body
@@ -41,25 +38,23 @@ security-written : (g : Given) (f : SecurityFields) (out now : List ℕ) → f �
 unfolding security_bytes security_fixed
 security-written g f out now e w = rw (← e) w
 
--- where the function begins
-abbrev begun : Joined-first → Start
-begun c = the Start (search)
-
 -- past the `if` the SecurityHeader is written, where one is
 joined : (c : Joined-first)
     → let a = c.args in
-    Written (cond a.values.security_first (security_bytes (section c.Start)) []) a.out.now a.start.0 c.if-first.out
+    Written (cond a.values.security_first (security_bytes (section c)) []) a.out.now a.start.0 c.if-first.out
 unfolding over
 joined c =
     let out = c.args.out.now in
-    let g = section c.Start in
+    let g = section c in
     record {
       ends = c.requires.start;
       bytes =
-          ⊎_elim
-          (λ w. headed true (security_bytes g) out w.0.true (security-written g _ out _ w.1.ensures (w.6 ∙ w.3.ensures)))
-          (λ w. headed false (security_bytes g) out w.0.left w.1)
-          c.if-first.branch;
+          elim c.if-first.branch [
+            | then-first w ↦
+                let bytes = security-written g _ out _ w.security_given.ensures w.write_security.ensures in
+                headed true (security_bytes g) out w.if-first.true (w.out-is ∙ bytes)
+            | else-first w ↦ headed false (security_bytes g) out w.if-first.false w.out-is
+          ];
     }
 
 -- and the output is as long as it was
@@ -92,11 +87,10 @@ pub returns : goal.returns
 unfolding section_bytes
 returns c =
     let written = c.write_properties in
-    let start = begun (goal.at.returns c).Joined-first in
-    let g = section start in
+    let g = section (goal.at.returns c).Joined-first in
     let rest = properties_bytes g in
-    (written-rest start.args.start.0 (length rest) rest written.new.1.1.1.1.1.1.0 (joined (goal.at.returns c).Joined-first) refl refl
-    (omega (arith, start.requires.room)) (properties-written g _ _ _ c.properties_given.ensures written.ensures)
+    (written-rest c.args.start.0 (length rest) rest written.new.out (joined (goal.at.returns c).Joined-first) refl refl
+    (omega (arith, c.requires.room)) (properties-written g _ _ _ c.properties_given.ensures written.ensures)
     ).bytes
 
 pub properties_given-requires : goal.properties_given-requires

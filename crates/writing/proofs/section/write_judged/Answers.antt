@@ -2,25 +2,22 @@
 use Prim.Native.Nat.{ℕ, ◌+◌, min}
 use mathlib.Core.Path.{◌≡◌, sym, ap, subst, ◌∙◌}
 use native.Mathlib.Omega.{arith}
-use lib.ListN.{length}
 use Rattle.octets.specs.declared.count.Bytes.{Bytes}
-use Rattle.octets.proofs.Laws.Steps.{the}
 use Rattle.rules.specs.Output.{writer_output}
 use Rattle.rules.specs.Properties.{properties_length}
-use Rattle.rules.specs.Refusal.{bytes, limit}
+use Rattle.rules.specs.Refusal.{bytes, limit, refusal}
 use Rattle.rules.specs.declared.properties.PropertiesFields.{PropertiesFields}
 use Rattle.rules.specs.declared.refusal.Refusal.{Refusal}
 use Rattle.rules.specs.declared.section.Output.{Output}
 use Rattle.rules.specs.declared.section.Output.TheVariants.{Written}
 use Rattle.rules.proofs.Laws.Output.{answer-short, answer-written}
-use Rattle.writing.specs.Given.{Given, held, security_given}
+use Rattle.writing.specs.Given.{Given, held, properties_given, security_given}
 use Rattle.writing.specs.Laid.{SectionLaid}
-use Rattle.writing.specs.Writing.{layout_length, section_bytes, start_of, write_answer, write_bytes, write_refusal}
+use Rattle.writing.specs.Writing.{base_write_refusal, layout_length, section_bytes, start_of, write_answer, write_bytes, write_refusal}
 use Rattle.writing.proofs.Laws.Laid.{label_small, section-laid}
 use Rattle.writing.proofs.Laws.Placed.{section-placed, start-placed, write-number}
-use borrow.Author.Rules.{rules}
 use Rattle.writing.proofs.section.write_judged.Goals as goal
-use Rattle.writing.proofs.section.write_judged.Goals.{After-section_end-length, Start}
+use Rattle.writing.proofs.section.write_judged.Goals.{Start}
 
 -- the section that is to be written
 abbrev section : Start → Given
@@ -29,26 +26,29 @@ section c =
     held a.values a.sender_id a.encryption_key a.signature a.sender_cert a.provider_info a.label a.extension a.body
 
 -- no step refuses it
-passed : (c : Start) → (write_refusal (section c)).number ≡ 0
-passed c = write-number (section c) ∙ ap (λ (r : Refusal). r.number) c.requires
+passed : (g : Given) (start : ℕ) → base_write_refusal g ≡ refusal 0 start → (write_refusal g).number ≡ 0
+passed g start e = write-number g ∙ ap (λ (r : Refusal). r.number) e
 
 -- where its MessagePropertiesHeader begins, and where it ends
-started : (c : Start) → c.args.start.0 ≡ start_of c.args.values.security_first (security_given (section c))
-started c = ap (λ (r : Refusal). r.place.0) (sym c.requires) ∙ ap (λ (p : Bytes). p.0) (start-placed (section c) (passed c))
+started : (g : Given) (start : ℕ) → base_write_refusal g ≡ refusal 0 start
+    → start ≡ start_of g.values.security_first (security_given g)
+started g start e =
+    ap (λ (r : Refusal). r.place.0) (sym e) ∙ ap (λ (p : Bytes). p.0) (start-placed g (passed g start e))
 
-ended : (c : After-section_end-length) → c.section_end-length.result.0 ≡ layout_length (section c.Start)
-ended c =
-    let at = c.args.start.0 in
-    let given = c.properties_given.ensures in
-    let told = c.section_end-length.ensures ∙ ap (λ (f : PropertiesFields). min (limit + 1) (at + properties_length f)) given in
-    omega (arith, told, started c.Start, ((section-placed (section c.Start)).0 (passed c.Start)).properties.small)
+ended : (g : Given) (start end : ℕ) (f : PropertiesFields) → base_write_refusal g ≡ refusal 0 start
+    → f ≡ properties_given g → end ≡ min (limit + 1) (start + properties_length f) → end ≡ layout_length g
+ended g start end f e given e2 =
+    let told = e2 ∙ ap (λ (f : PropertiesFields). min (limit + 1) (start + properties_length f)) given in
+    omega (arith, told, started g start e, ((section-placed g).0 (passed g start e)).properties.small)
 
 pub returns-then-out-length : goal.returns-then-out-length
 unfolding write_answer write_bytes writer_output
 returns-then-out-length c =
     let g = section (goal.at.returns-then-out-length c).Start in
+    let at = c.args.start.0 in
     let out = c.args.out.now in
-    let short = answer-short (write_refusal g) (layout_length g) out (passed (goal.at.returns-then-out-length c).Start) (omega (arith, ended (goal.at.returns-then-out-length c).After-section_end-length)) in
+    let end = ended g at _ _ c.requires c.properties_given.ensures c.section_end-length.ensures in
+    let short = answer-short (write_refusal g) (layout_length g) out (passed g at c.requires) (omega (arith, end)) in
     let answer : c.output_short.result ≡ write_answer g out = c.output_short.ensures ∙ short in record {
       value = answer;
       out_after = ap (λ (a : Output). writer_output a (section_bytes g) out) (sym c.output_short.ensures ∙ answer);
@@ -57,22 +57,26 @@ returns-then-out-length c =
 pub write_headers-requires : goal.write_headers-requires
 write_headers-requires c =
     let g = section (goal.at.write_headers-requires c).Start in
+    let at = c.args.start.0 in
     let out = c.args.out.now in
-    subst (λ (at : ℕ). SectionLaid g at out) (sym (started (goal.at.write_headers-requires c).Start))
-    (section-laid g out (passed (goal.at.write_headers-requires c).Start) (omega (arith, ended (goal.at.write_headers-requires c).After-section_end-length)))
+    let end = ended g at _ _ c.requires c.properties_given.ensures c.section_end-length.ensures in
+    subst (λ (at : ℕ). SectionLaid g at out) (sym (started g at c.requires))
+    (section-laid g out (passed g at c.requires) (omega (arith, end)))
 
 pub returns : goal.returns
 unfolding write_answer write_bytes writer_output
 returns c =
-    let a = c.args in
     let g = section (goal.at.returns c).Start in
-    let out = a.out.now in
-    let length : ◌≡◌ {A = Bytes} c.section_end-length.result (bytes (layout_length g)) = λ i. record { 0 = ended (goal.at.returns c).After-section_end-length i } in
-    let answer = answer-written (write_refusal g) (layout_length g) out (passed (goal.at.returns c).Start) (omega (arith, ended (goal.at.returns c).After-section_end-length)) in record {
+    let at = c.args.start.0 in
+    let out = c.args.out.now in
+    let end = ended g at _ _ c.requires c.properties_given.ensures c.section_end-length.ensures in
+    let length : ◌≡◌ {A = Bytes} c.section_end-length.result (bytes (layout_length g)) = λ i. record { 0 = end i } in
+    let answer = answer-written (write_refusal g) (layout_length g) out (passed g at c.requires) (omega (arith, end)) in record {
       value = ap Written length ∙ answer;
       out_after = c.write_headers.ensures ∙ ap (λ (a : Output). writer_output a (section_bytes g) out) answer;
     }
 
 pub properties_given-requires : goal.properties_given-requires
 properties_given-requires c =
-    label_small (section (goal.at.properties_given-requires c).Start) ((section-placed (section (goal.at.properties_given-requires c).Start)).0 (passed (goal.at.properties_given-requires c).Start)).properties
+    let g = section (goal.at.properties_given-requires c).Start in
+    label_small g ((section-placed g).0 (passed g c.args.start.0 c.requires)).properties

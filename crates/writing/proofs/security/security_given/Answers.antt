@@ -1,7 +1,6 @@
 -- The code is the definition.
 use mathlib.Core.Path.{refl}
 use Rattle.writing.specs.Given.{security_from}
-use borrow.Author.Rules.{rules}
 use Rattle.writing.proofs.security.security_given.Goals as goal
 
 pub returns : goal.returns

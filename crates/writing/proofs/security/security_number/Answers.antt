@@ -1,11 +1,10 @@
 -- Each return is the first of 28, S2 to S8, S10 and S11 whose test holds.
 use Prim.Native.Nat.{◌≤◌, ◌<◌}
 use native.Mathlib.Omega.{arith}
-use Rattle.octets.proofs.Laws.Steps.{steps, the, told}
+use Rattle.octets.proofs.Laws.Steps.{steps, told}
 use Rattle.rules.specs.Refusal.{first_of, limit}
 use Rattle.rules.specs.Security.{security_length}
 use Rattle.writing.specs.Writing.{write_security}
-use borrow.Author.Rules.{rules}
 use Rattle.writing.proofs.security.security_number.Goals as goal
 
 pub returns-then-part_too_large : goal.returns-then-part_too_large

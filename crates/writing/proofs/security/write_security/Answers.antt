@@ -3,10 +3,8 @@ use mathlib.Core.Path.{refl, sym}
 use native.Mathlib.Omega.{arith}
 use lib.ListN.{length}
 use Rattle.octets.proofs.Laws.Over.{written-first, written-rest}
-use Rattle.octets.proofs.Laws.Steps.{the}
 use Rattle.writing.specs.Writing.{security_parts_bytes}
 use Rattle.writing.proofs.Laws.Header.{length-security_row}
-use borrow.Author.Rules.{rules}
 use Rattle.writing.proofs.security.write_security.Goals as goal
 
 pub returns : goal.returns
@@ -15,7 +13,7 @@ returns c =
     let parts = security_parts_bytes a.sender_id.now a.encryption_key.now a.signature.now a.sender_cert.now a.provider_info.now in
     let behind = c.write_security_parts in
     let w1 = written-first c.write_security_fixed.ensures in
-    (written-rest 16 (length parts) parts behind.new.1.1.1.1.1.0 w1 (sym (length-security_row a.f)) refl
+    (written-rest 16 (length parts) parts behind.new.out w1 (sym (length-security_row a.f)) refl
     (omega (arith, c.requires)) behind.ensures).bytes
 
 pub write_security_fixed-requires : goal.write_security_fixed-requires

@@ -4,19 +4,13 @@ use mathlib.Core.Path.{ap, ◌∙◌}
 use mathlib.Core.List.{List}
 use native.Mathlib.Omega.{arith}
 use Rattle.octets.proofs.Laws.Over.{written_none}
-use Rattle.octets.proofs.Laws.Steps.{the}
 use Rattle.octets.specs.Over.{over}
 use Rattle.writing.proofs.Laws.Header.{number-next, security-stored}
 use Rattle.writing.proofs.security.write_security_fixed.Goals as goal
-use Rattle.writing.proofs.security.write_security_fixed.Goals.{After-write_u16-4, Start}
-
--- where the function begins
-abbrev begun : After-write_u16-4 → Start
-begun c = the Start (search)
 
 pub returns : goal.returns
 returns c =
-    let a = (begun (goal.at.returns c).After-write_u16-4).args in
+    let a = c.args in
     let f = a.f in
     let none = written_none a.out.now in
     let flags = number-next 2 f.flags none c.write_u16.ensures in
@@ -61,20 +55,20 @@ write_u16-requires-4 c =
 
 pub overflow_cast-f-5 : goal.overflow_cast-f-5
 overflow_cast-f-5 c =
-    omega (arith, (goal.at.overflow_cast-f-5 c).After-write_u16-4, begun (goal.at.overflow_cast-f-5 c).After-write_u16-4)
+    omega (arith, c.requires)
 
 pub write_u32-requires : goal.write_u32-requires
 write_u32-requires c =
-    omega (arith, (goal.at.write_u32-requires c).After-write_u16-4, begun (goal.at.write_u32-requires c).After-write_u16-4)
+    omega (arith, c.requires)
 
 pub overflow_cast-f-6 : goal.overflow_cast-f-6
 overflow_cast-f-6 c =
-    omega (arith, (goal.at.overflow_cast-f-6 c).After-write_u16-4, begun (goal.at.overflow_cast-f-6 c).After-write_u16-4)
+    omega (arith, c.requires)
 
 pub write_u32-requires-2 : goal.write_u32-requires-2
 write_u32-requires-2 c =
-    omega (arith, (goal.at.write_u32-requires-2 c).After-write_u16-4, begun (goal.at.write_u32-requires-2 c).After-write_u16-4)
+    omega (arith, c.requires)
 
 pub shape_of-out : goal.shape_of-out
 shape_of-out c =
-    omega (arith, (goal.at.shape_of-out c).After-write_u16-4, begun (goal.at.shape_of-out c).After-write_u16-4)
+    omega (arith, c.requires)

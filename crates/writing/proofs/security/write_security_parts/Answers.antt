@@ -7,17 +7,11 @@ use lib.ListN.{length, take, drop}
 use Rattle.octets.specs.Padding.{padded}
 use Rattle.octets.specs.Over.{over}
 use Rattle.octets.proofs.Laws.Over.{Written, written-first, written-rest}
-use Rattle.octets.proofs.Laws.Steps.{the}
 use Rattle.writing.specs.Writing.{padded_part, security_parts_bytes}
 use Rattle.writing.proofs.Laws.Header.{five}
 use Rattle.writing.proofs.Laws.Row.{length-padded_part}
-use borrow.Author.Rules.{rules}
 use Rattle.writing.proofs.security.write_security_parts.Goals as goal
-use Rattle.writing.proofs.security.write_security_parts.Goals.{After-write_padded_part, After-write_padded_part-3, After-write_padded_part-key_at, Start}
-
--- where the function begins
-abbrev begun : After-write_padded_part → Start
-begun c = the Start (search)
+use Rattle.writing.proofs.security.write_security_parts.Goals.{After-write_padded_part-3, After-write_padded_part-key_at}
 
 short : (c : After-write_padded_part-key_at) → length c.args.out.now < 2 ^ 64
 short c = omega arith
@@ -30,19 +24,19 @@ part-next at part later w a h e = written-rest at (padded 4 (length part)) (padd
 
 -- how far the first four parts reach
 reach : (c : After-write_padded_part-3)
-    → let a = (begun c.After-write_padded_part).args in
+    → let a = c.args in
     (c.write_padded_part-key_at.result.0 + c.write_padded_part.result.0 + c.write_padded_part-2.result.0
     + c.write_padded_part-3.result.0)
     + padded 4 (length a.provider_info.now)
     ≤ length a.out.now
 reach c =
-    omega (arith, (begun c.After-write_padded_part).requires)
+    omega (arith, c.requires)
 
 pub returns : goal.returns
 unfolding security_parts_bytes
 returns c =
-    let a = (begun (goal.at.returns c).After-write_padded_part).args in
-    let h = (begun (goal.at.returns c).After-write_padded_part).requires in
+    let a = c.args in
+    let h = c.requires in
     let identity = a.sender_id.now in
     let key = a.encryption_key.now in
     let signature = a.signature.now in
@@ -62,10 +56,10 @@ returns c =
     let e3 : r3 ≡ padded 4 (length signature) = c3.ensures.result_value in
     let e4 : r4 ≡ padded 4 (length cert) = c4.ensures.result_value in
     let w1 = written-first c1.ensures.out_after in
-    let w2 = part-next r1 key c2.new.1.0 w1 (e1 ∙ sym (length-padded_part identity)) (omega (arith, h)) c2.ensures.out_after in
-    let w3 = part-next (r1 + r2) signature c3.new.1.0 w2 (omega arith) (omega (arith, h)) c3.ensures.out_after in
-    let w4 = part-next (r1 + r2 + r3) cert c4.new.1.0 w3 (omega arith) (omega (arith, h)) c4.ensures.out_after in
-    let w5 = part-next (r1 + r2 + r3 + r4) provider c5.new.1.0 w4 (omega arith) (omega (arith, h)) c5.ensures.out_after in
+    let w2 = part-next r1 key c2.new.out w1 (e1 ∙ sym (length-padded_part identity)) (omega (arith, h)) c2.ensures.out_after in
+    let w3 = part-next (r1 + r2) signature c3.new.out w2 (omega arith) (omega (arith, h)) c3.ensures.out_after in
+    let w4 = part-next (r1 + r2 + r3) cert c4.new.out w3 (omega arith) (omega (arith, h)) c4.ensures.out_after in
+    let w5 = part-next (r1 + r2 + r3 + r4) provider c5.new.out w4 (omega arith) (omega (arith, h)) c5.ensures.out_after in
     let row = five (padded_part identity) (padded_part key) (padded_part signature) (padded_part cert) (padded_part provider) in
     w5.bytes ∙ ap (λ (bs : List ℕ). over bs a.out.now) row
 

@@ -23,26 +23,29 @@ short c =
 pub slice_bounds-write_section-end : goal.slice_bounds-write_section-end
 slice_bounds-write_section-end c =
     let w = c.write_provider_info-size in
-    sym (length-take-le w.result.0 w.new.1.1.1.0 (omega (arith, w.ensures.result_value, short (goal.at.slice_bounds-write_section-end c).Then-provider_name-le61)))
+    sym (length-take-le w.result.0 w.new.out (omega (arith, w.ensures.result_value, short (goal.at.slice_bounds-write_section-end c).Then-provider_name-le61)))
 
 pub slice_bounds-write_section-end-2 : goal.slice_bounds-write_section-end-2
 slice_bounds-write_section-end-2 c =
     let w = c.write_provider_info-size-2 in
-    sym (length-take-le w.result.0 w.new.1.1.1.0 (omega (arith, w.ensures.result_value, c.requires)))
+    sym (length-take-le w.result.0 w.new.out (omega (arith, w.ensures.result_value, c.requires)))
 
 pub returns-then-provider_name-le61 : goal.returns-then-provider_name-le61
 returns-then-provider_name-le61 c =
     let info = c.write_provider_info-size.ensures in
-    rw (← held _ info) c.write_section.ensures
+    rw (← held _ (info.result_value, info.out_after)) c.write_section.ensures
 
 pub returns : goal.returns
 returns c =
     let info = c.write_provider_info-size-2.ensures in
-    rw (← held _ info) c.write_section-2.ensures
+    rw (← held _ (info.result_value, info.out_after)) c.write_section-2.ensures
 
 pub write_provider_info-size-requires : goal.write_provider_info-size-requires
 write_provider_info-size-requires c =
-    (c.requires, short (goal.at.write_provider_info-size-requires c).Then-provider_name-le61)
+    record {
+      provider_name_len_bound = c.requires;
+      provider_name_in_bounds = short (goal.at.write_provider_info-size-requires c).Then-provider_name-le61;
+    }
 
 pub slice_bounds-info-end : goal.slice_bounds-info-end
 slice_bounds-info-end c =

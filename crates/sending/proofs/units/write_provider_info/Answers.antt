@@ -17,10 +17,10 @@ use Rattle.requests.proofs.Laws.Provider.{info-default, info-other, info-unsigne
 use Rattle.requests.proofs.Laws.Text.{length-info}
 use Rattle.sending.proofs.Laws.Units.{halves-number}
 use Rattle.sending.proofs.units.write_provider_info.Goals as goal
-use Rattle.sending.proofs.units.write_provider_info.Goals.{Else-request, Start}
+use Rattle.sending.proofs.units.write_provider_info.Goals.{Else-request}
 
 -- where provider info is written, the name fits its count, and its bytes the output
-record Room (c : Start) : Type 0 where
+record Room (c : Else-request) : Type 0 where
   info : provider_info c.args.request c.args.signature.now c.args.provider_name.now
       ≡ type_and_name c.args.request c.args.provider_name.now
   size : length (provider_info c.args.request c.args.signature.now c.args.provider_name.now)
@@ -41,13 +41,13 @@ pub returns-then-signature-eq0 : goal.returns-then-signature-eq0
 returns-then-signature-eq0 c =
     let a = c.args in
     let none = info-unsigned a.request a.signature.now a.provider_name.now c.if-signature-eq0.true in
-    rw none (refl, (written_none a.out.now).bytes)
+    rw none (record { result_value = refl; out_after = (written_none a.out.now).bytes })
 
 pub returns-then-request : goal.returns-then-request
 returns-then-request c =
     let a = c.args in
     let none = info-default a.request a.signature.now a.provider_name.now c.if-request.true in
-    rw none (refl, (written_none a.out.now).bytes)
+    rw none (record { result_value = refl; out_after = (written_none a.out.now).bytes })
 
 pub returns : goal.returns
 returns c =
@@ -59,7 +59,7 @@ returns c =
     let w = c.write_text in
     let first = written-first c.write_units.ensures in
     let rest =
-    written-rest 4 (length text) text w.new.1.0 first (sym (length-unit_bytes halves)) refl (omega (arith, r.room))
+    written-rest 4 (length text) text w.new.out first (sym (length-unit_bytes halves)) refl (omega (arith, r.room))
     w.ensures.out_after in
     let whole = ap (λ (bs : List ℕ). bs ++ text) (halves-number n.result)
     ∙ ap (λ (k : ℕ). to_le 4 k ++ text) n.ensures ∙ sym r.info in record {
@@ -81,7 +81,8 @@ slice_bounds-write_text-start c =
 
 pub write_text-requires : goal.write_text-requires
 write_text-requires c =
-    let r = room (goal.at.write_text-requires c).Else-request in record { units_len_bound = r.name; units_in_bounds = omega (arith, r.room) }
+    let r = room (goal.at.write_text-requires c).Else-request in
+    record { units_len_bound = r.name; units_in_bounds = omega (arith, r.room) }
 
 pub overflow_add-result : goal.overflow_add-result
 overflow_add-result c =

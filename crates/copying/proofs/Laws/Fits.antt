@@ -4,7 +4,6 @@ use mathlib.Core.Path.{◌≡◌, refl, subst}
 use mathlib.Core.List.{List}
 use native.Mathlib.Omega.{arith}
 use lib.ListN.{drop, length, length-drop}
-use Rattle.rules.specs.Support.{support_answer}
 use Rattle.rules.specs.declared.section.Output.{Output}
 use Rattle.rules.specs.declared.section.Output.TheVariants.{Written, Refused as Output-as-Refused}
 use Rattle.records.specs.Head.{next_head, section_behind}

@@ -1,6 +1,6 @@
 -- What the copier's answer tells: a copy that was written is of an accepted section and has room; where none was, the output stays.
-use Prim.Native.Nat.{ℕ, ◌+◌, ◌≤◌}
-use mathlib.Core.Path.{◌≡◌, refl, sym, ap, subst, ◌∙◌}
+use Prim.Native.Nat.{ℕ, ◌≤◌}
+use mathlib.Core.Path.{◌≡◌, refl, sym, ap, subst}
 use mathlib.Core.Bool.{Bool}
 use mathlib.Core.List.{List}
 use native.Mathlib.Omega.{arith}
@@ -10,7 +10,7 @@ use Rattle.octets.specs.declared.count.Bytes.{Bytes}
 use Rattle.rules.specs.Judged.{copy_of}
 use Rattle.rules.specs.Output.{writer_output}
 use Rattle.rules.specs.Properties.{properties_length}
-use Rattle.rules.specs.Reading.{fields_at, summarize, summary_at}
+use Rattle.rules.specs.Reading.{fields_at, summarize}
 use Rattle.rules.specs.Refusal.{limit, refusal}
 use Rattle.rules.specs.Support.{copy_answer, copy_output, support_answer, support_bytes}
 use Rattle.rules.specs.declared.refusal.Refusal.{Refusal}

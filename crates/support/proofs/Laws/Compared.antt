@@ -1,12 +1,12 @@
 -- What a comparison has told of a proposed copy, run by run: whether its first bytes are those that the mask keeps.
 use Prim.Native.Nat.{ℕ, ◌+◌, ◌-◌, ◌≤◌}
 use mathlib.Core.Path.{◌≡◌, refl, sym, ap, ap₂, ◌∙◌}
-use mathlib.Core.Bool.{Bool, true, false, false≢true, not, ◌&&◌, and-eq-true_iff}
+use mathlib.Core.Bool.{Bool, true, false, false≢true, ◌&&◌, and-eq-true_iff}
 use mathlib.Core.List.{List, [], ◌∷◌, ◌++◌}
 use mathlib.Core.Logic.{◌↔◌}
 use native.Mathlib.Nat.{add-sub_cancel_left}
 use native.Mathlib.Omega.{arith}
-use borrow.Author.Tests.{eqb-true, eq-eqb, not-false, not-true}
+use borrow.Author.Tests.{eqb-true, eq-eqb}
 use lib.Dec.{eqb}
 use lib.ListN.{length, get_or, take, drop, replicate, length-append, length-drop, length-replicate}
 use lib.Seq.{drop_at, get_or-drop, length-take-le, take-add, take_at, take-take}
@@ -85,15 +85,15 @@ compared-before {ks} {s} {proposed} {end} size ls c inside hs e =
 
 -- so where they differ, all does
 pub compared-fails : {ks s proposed : List ℕ} {end : ℕ} {equal : Bool} (size : ℕ) (ls ms : List ℕ) → Compared ks s proposed end equal
-    → end ≤ size → end ≤ length s → ks ++ ls ≡ ms → not equal ≡ true → (false ≡ true) ↔ (take size proposed ≡ masked ms s)
+    → end ≤ size → end ≤ length s → ks ++ ls ≡ ms → equal ≡ false → (false ≡ true) ↔ (take size proposed ≡ masked ms s)
 compared-fails {s = s} {equal = equal} size ls ms c inside hs mask wrong = (
   λ e. absurd (false≢true e),
-  λ e. absurd (false≢true (sym (not-true equal wrong) ∙ compared-before size ls c inside hs (e ∙ ap (λ (ks : List ℕ). masked ks s) (sym mask)))),
+  λ e. absurd (false≢true (sym wrong ∙ compared-before size ls c inside hs (e ∙ ap (λ (ks : List ℕ). masked ks s) (sym mask)))),
 )
 
 -- and where they do not, the next runs tell
-pub compared-rest : (equal : Bool) {next : Bool} {P : Type 0} → not equal ≡ false → ((equal && next) ≡ true) ↔ P → (next ≡ true) ↔ P
-compared-rest equal right both = rw (not-false equal right) at both
+pub compared-rest : (equal : Bool) {next : Bool} {P : Type 0} → equal ≡ true → ((equal && next) ≡ true) ↔ P → (next ≡ true) ↔ P
+compared-rest equal right both = rw right at both
 
 -- one byte
 pub one_same : (x y : ℕ) → (eqb x y ≡ true) ↔ (x ∷ [] ≡ y ∷ [])

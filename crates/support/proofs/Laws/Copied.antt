@@ -1,11 +1,11 @@
 -- What a copy has written, run by run: the bytes that the mask keeps.
-use Prim.Native.Nat.{ℕ, ◌+◌, ◌-◌, ◌%◌, ◌^◌, ◌≤◌, ◌<◌}
+use Prim.Native.Nat.{ℕ, ◌+◌, ◌-◌, ◌≤◌, ◌<◌}
 use mathlib.Core.Path.{◌≡◌, refl, sym, ap, ◌∙◌}
-use mathlib.Core.List.{List, [], ◌∷◌, ◌++◌}
+use mathlib.Core.List.{List, [], ◌++◌}
 use native.Mathlib.Nat.{add-sub_cancel_left}
 use native.Mathlib.Omega.{arith}
 use lib.ListN.{length, get_or, take, drop, replicate, length-append, length-drop, length-replicate}
-use lib.Seq.{drop-cons, get_or-drop}
+use lib.Seq.{get_or-drop}
 use Rattle.octets.specs.Over.{copied, over, over_at}
 use Rattle.octets.proofs.Laws.Over.{Written, copied-lent, length-lent, written_next}
 use Rattle.rules.specs.Judged.{masked}

@@ -1,10 +1,9 @@
 -- An accepted section's headers lie where the layout puts them.
 use Prim.Native.Nat.{ℕ, ◌+◌, ◌-◌, ◌≤◌, min}
 use mathlib.Core.Path.{◌≡◌, refl, sym, ap, subst, ◌∙◌}
-use mathlib.Core.Bool.{Bool, true, false, not}
+use mathlib.Core.Bool.{Bool, true}
 use mathlib.Core.List.{List, ◌++◌}
 use native.Mathlib.Omega.{arith}
-use borrow.Author.Tests.{not-false}
 use lib.ListN.{length, take, drop, length-drop}
 use Rattle.octets.specs.Padding.{padded}
 use Rattle.octets.specs.declared.count.Bytes.{Bytes}
@@ -48,11 +47,11 @@ pub record FirstLaid (f : SecurityFields) (at : ℕ) (s out : List ℕ) : Type 0
   pub end : at ≡ security_length f
   pub laid : (provider : ℕ) → provider ≡ provider_at f → SecurityLaid f provider at s out
 
-pub first-laid : (first : Bool) (s out : List ℕ) (at : ℕ) {f : SecurityFields} → HeaderLaid first at s out → not first ≡ false
+pub first-laid : (first : Bool) (s out : List ℕ) (at : ℕ) {f : SecurityFields} → HeaderLaid first at s out → first ≡ true
     → f ≡ security_read s → FirstLaid f at s out
 unfolding start_at header_at security_header security_parts summary_at summary_of
 first-laid first s out at l one read =
-    let l : HeaderLaid true at s out = subst (λ (b : Bool). HeaderLaid b at s out) (not-false first one) l in
+    let l : HeaderLaid true at s out = subst (λ (b : Bool). HeaderLaid b at s out) one l in
     let fields = read ∙ security-read s ((judge-passed true s).0 l.passed).security.fixed in
     subst (λ (x : SecurityFields). FirstLaid x at s out) (sym fields)
     (record { fields = refl; end = l.start; laid = λ provider p. security-laid s out at provider l p })

@@ -1,10 +1,9 @@
 -- A proposed copy that is the support copy: the section is accepted, and it is as long as that and holds the same bytes.
 use Prim.Native.Nat.{ℕ}
 use mathlib.Core.Path.{◌≡◌, ap, subst, ◌∙◌}
-use mathlib.Core.Bool.{Bool, true, false, not}
+use mathlib.Core.Bool.{Bool, false}
 use mathlib.Core.List.{List}
 use mathlib.Core.Logic.{◌↔◌}
-use borrow.Author.Tests.{not-true}
 use lib.ListN.{length, take}
 use Rattle.rules.specs.Judged.{copy_of, judged, masked}
 use Rattle.rules.specs.Reading.{header_at, judge, start_at, summary_at}
@@ -35,9 +34,9 @@ module _ (first : Bool) (s proposed : List ℕ) (none : (judge first s).number �
       ap length (proposed-same.1 x) ∙ length-masked-le (judged m) s (judged-le first s m a) ∙ length-judged first s m a
 
 -- without a SecurityHeader there is nothing to compare
-pub header-none : (first : Bool) (s proposed : List ℕ) (at : ℕ) → HeaderLaid first at s proposed → not first ≡ true
+pub header-none : (first : Bool) (s proposed : List ℕ) (at : ℕ) → HeaderLaid first at s proposed → first ≡ false
     → take at proposed ≡ masked (header_mask first (header_at first s)) s
 unfolding start_at header_at no_security masked
 header-none first s proposed at l e =
-    let l : HeaderLaid false at s proposed = subst (λ (b : Bool). HeaderLaid b at s proposed) (not-true first e) l in
-    rw (not-true first e) (ap (λ (n : ℕ). take n proposed) l.start)
+    let l : HeaderLaid false at s proposed = subst (λ (b : Bool). HeaderLaid b at s proposed) e l in
+    rw e (ap (λ (n : ℕ). take n proposed) l.start)

@@ -3,8 +3,6 @@ use mathlib.Core.List.{List, ◌++◌}
 use mathlib.Core.Path.{ap, ◌∙◌}
 use Prim.Native.Nat.{ℕ}
 use lib.ListN.{take}
-use borrow.Author.Rules.{rules}
-use Rattle.octets.proofs.Laws.Steps.{the}
 use Rattle.rules.specs.Support.{support_answer, support_bytes}
 use Rattle.copying.proofs.Laws.Room.{lent-behind, put-behind}
 use Rattle.copying.proofs.record.copy_section.Goals as goal
@@ -17,6 +15,6 @@ returns c =
     let copied = c.support_copy in
     let lent = lent-behind out room.result.0 room.ensures in record {
       value = copied.ensures.value ∙ ap (support_answer a.security_first a.section.now) lent;
-      out_after = put-behind out room.result.0 room.ensures copied.new.1.1.0
+      out_after = put-behind out room.result.0 room.ensures copied.new.out
           ∙ ap (λ (x : List ℕ). take 8 out ++ x) (copied.ensures.out_after ∙ ap (support_bytes a.security_first a.section.now) lent);
     }

@@ -1,9 +1,6 @@
 -- Without a SecurityHeader nothing is written.
 use mathlib.Core.Path.{ap, ◌∙◌}
-use borrow.Author.Rules.{rules}
-use borrow.Author.Tests.{not-false, not-true}
 use Rattle.octets.specs.Over.{over}
-use Rattle.octets.proofs.Laws.Steps.{the}
 use Rattle.rules.specs.Judged.{masked, security_mask}
 use Rattle.rules.specs.Reading.{header_at, security_header}
 use Rattle.rules.specs.declared.security.SecurityFields.{SecurityFields}
@@ -13,7 +10,7 @@ use Rattle.support.proofs.copy.copy_header.Goals.{After-security_fields-security
 
 pub returns-then-not-security_first : goal.returns-then-not-security_first
 unfolding over masked
-returns-then-not-security_first c = let a = c.args in rw (not-true a.security_first c.if-not-security_first.true)
+returns-then-not-security_first c = let a = c.args in rw c.if-not-security_first.true
 
 laid : (c : After-security_fields-security)
     → let a = c.args in
@@ -26,7 +23,7 @@ pub returns : goal.returns
 unfolding header_at security_header
 returns c =
     let s = c.args.s.now in
-    rw (not-false c.args.security_first c.if-not-security_first.false)
+    rw c.if-not-security_first.false
     (c.copy_security.ensures
     ∙ ap (λ (x : SecurityFields). over (masked (security_mask x) s) c.args.out.now) (laid (goal.at.returns c).After-security_fields-security).fields)
 

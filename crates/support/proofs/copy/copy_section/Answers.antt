@@ -4,27 +4,18 @@ use mathlib.Core.Path.{◌≡◌, ap, refl, ◌∙◌}
 use mathlib.Core.Bool.{Bool}
 use mathlib.Core.List.{List}
 use native.Mathlib.Omega.{arith}
-use borrow.Author.Rules.{rules}
 use lib.ListN.{drop, length, take}
 use Rattle.octets.specs.Over.{over, over_at}
 use Rattle.octets.proofs.Laws.Over.{over-rest}
 use Rattle.octets.proofs.Laws.Part.{rest-drop}
-use Rattle.octets.proofs.Laws.Steps.{the}
 use Rattle.rules.specs.Judged.{copy_of, masked, properties_mask}
 use Rattle.rules.specs.Reading.{header_at, summary_at}
 use Rattle.rules.proofs.Laws.Judged.{header_mask, length-properties_bits}
 use Rattle.support.specs.Laid.{SectionLaid}
 use Rattle.support.specs.declared.placed.Placed.{Placed}
 use Rattle.support.proofs.Laws.Copied.{Copied, copied_next}
-use Rattle.support.proofs.Laws.Laid.{Lies, header-ends, header-laid, rest-laid, section-lies, section-mask}
+use Rattle.support.proofs.Laws.Laid.{header-ends, header-laid, rest-laid, section-lies, section-mask}
 use Rattle.support.proofs.copy.copy_section.Goals as goal
-use Rattle.support.proofs.copy.copy_section.Goals.{After-copy_header, Start}
-
-lies : (c : Start) → Lies c.args.section c.args.s.now c.args.out.now
-lies c = section-lies _ _ _ _ c.requires
-
-entry : After-copy_header → Start
-entry c = search
 
 -- the header's bytes, then the rest
 both : (first : Bool) (section : Placed) (s out header later : List ℕ) → SectionLaid first section s out
@@ -42,20 +33,19 @@ both first section s out header later l h e =
     two.bytes ∙ ap (λ (ks : List ℕ). over (masked ks s) out) (section-mask first section s out l)
 
 pub returns : goal.returns
-unfolding entry
 returns c =
-    let start = entry (goal.at.returns c).After-copy_header in
-    let first = start.args.security_first in
-    let section = start.args.section in
-    let s = start.args.s.now in
+    let first = c.args.security_first in
+    let section = c.args.section in
+    let s = c.args.s.now in
     let f = section.properties in
     let at = section.start.0 in
-    let out = c.copy_header.new.1.1.1.0 in
+    let out = c.copy_header.new.out in
     let copied = c.copy_properties in
     let lent = take (length out - at) (drop at out) in
     let part = copied.ensures ∙ ap (λ (p : List ℕ). over (masked (properties_mask f) p) lent) (rest-drop s at) in
-    let rest = over-rest at (masked (properties_mask f) (drop at s)) out copied.new.1.1.1.0 (omega (arith, lies start)) part in
-    both first section s start.args.out.now out _ start.requires c.copy_header.ensures rest
+    let lies = section-lies _ _ _ _ c.requires in
+    let rest = over-rest at (masked (properties_mask f) (drop at s)) out copied.new.out (omega arith) part in
+    both first section s c.args.out.now out _ c.requires c.copy_header.ensures rest
 
 pub copy_header-requires : goal.copy_header-requires
 copy_header-requires c =
@@ -63,25 +53,25 @@ copy_header-requires c =
 
 pub slice_bounds-copy_properties-count : goal.slice_bounds-copy_properties-count
 slice_bounds-copy_properties-count c =
-    omega (arith, lies (goal.at.slice_bounds-copy_properties-count c).Start)
+    omega (arith, section-lies _ _ _ _ c.requires)
 
 pub slice_bounds-copy_properties-start : goal.slice_bounds-copy_properties-start
 slice_bounds-copy_properties-start c =
-    omega (arith, lies (goal.at.slice_bounds-copy_properties-start c).Start)
+    omega (arith, section-lies _ _ _ _ c.requires)
 
 pub overflow_sub-section : goal.overflow_sub-section
 overflow_sub-section c =
-    omega (arith, lies (goal.at.overflow_sub-section c).Start)
+    omega (arith, section-lies _ _ _ _ c.requires)
 
 pub slice_bounds-copy_properties-count-2 : goal.slice_bounds-copy_properties-count-2
 slice_bounds-copy_properties-count-2 c =
-    omega (arith, lies (goal.at.slice_bounds-copy_properties-count-2 c).Start)
+    omega (arith, section-lies _ _ _ _ c.requires)
 
 pub slice_bounds-copy_properties-start-2 : goal.slice_bounds-copy_properties-start-2
 slice_bounds-copy_properties-start-2 c =
-    omega (arith, lies (goal.at.slice_bounds-copy_properties-start-2 c).Start)
+    omega (arith, section-lies _ _ _ _ c.requires)
 
 pub copy_properties-requires : goal.copy_properties-requires
 copy_properties-requires c =
-    rest-laid _ _ _ _ c.requires c.copy_header.new.1.1.1.0
-    (omega (arith, lies (goal.at.copy_properties-requires c).Start))
+    rest-laid _ _ _ _ c.requires c.copy_header.new.out
+    (omega (arith, section-lies _ _ _ _ c.requires))

@@ -2,8 +2,6 @@
 use Prim.Native.Nat.{◌+◌}
 use mathlib.Core.Path.{refl}
 use native.Mathlib.Omega.{arith}
-use borrow.Author.Rules.{rules}
-use Rattle.octets.proofs.Laws.Steps.{the}
 use Rattle.support.proofs.Laws.Compared.{compared-mask, compared-none, compared-run, compared-zeros}
 use Rattle.support.proofs.Laws.Mask.{head-runs}
 use Rattle.support.proofs.header.is_head_copy.Goals as goal

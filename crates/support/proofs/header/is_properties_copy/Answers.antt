@@ -4,8 +4,6 @@ use mathlib.Core.Path.{refl, ◌∙◌}
 use mathlib.Core.List.{◌++◌}
 use native.Mathlib.Omega.{arith}
 use lib.ListN.{length-append, length-replicate, replicate}
-use borrow.Author.Rules.{rules}
-use Rattle.octets.proofs.Laws.Steps.{the}
 use Rattle.rules.specs.Properties.{properties_row}
 use Rattle.rules.specs.Row.{row_bits}
 use Rattle.rules.proofs.Laws.Named.{properties-size}

@@ -2,26 +2,18 @@
 use Prim.Native.Nat.{◌+◌, ◌-◌}
 use mathlib.Core.Path.{refl}
 use native.Mathlib.Omega.{arith}
-use borrow.Author.Rules.{rules}
-use Rattle.octets.proofs.Laws.Steps.{the}
 use Rattle.support.proofs.Laws.Compared.{compared-mask, compared-none, compared-run, compared-zeros}
 use Rattle.support.proofs.Laws.Mask.{security-identity-runs}
 use Rattle.support.proofs.header.is_security_copy.Goals as goal
-use Rattle.support.proofs.header.is_security_copy.Goals.{After-is_kept-2, After-judged_identity-identity}
-
-identified : After-is_kept-2 → After-judged_identity-identity
-identified c = search
 
 pub returns : goal.returns
-unfolding identified
 returns c =
     let s = c.args.s.now in
     let proposed = c.args.proposed.now in
     let f = c.args.f in
     let l = c.requires in
-    let judged = (identified (search)).judged-identity in
-    let identity = judged.result.0 in
-    let two = judged.ensures in
+    let identity = c.judged_identity-identity.result.0 in
+    let two = c.judged_identity-identity.ensures in
     let info = f.provider_info_size.0 in
     let provider = c.args.provider.0 in
     let size = c.args.size.0 in

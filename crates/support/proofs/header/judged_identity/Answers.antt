@@ -1,7 +1,7 @@
 -- ST and the size pick the case.
 use native.Mathlib.Omega.{arith}
 use borrow.Author.Tests.{eq-eqb}
-use Rattle.octets.proofs.Laws.Steps.{steps, the}
+use Rattle.octets.proofs.Laws.Steps.{steps}
 use Rattle.rules.specs.Judged.{judged_identity}
 use Rattle.support.proofs.header.judged_identity.Goals as goal
 

@@ -2,7 +2,6 @@
 use native.Mathlib.Omega.{arith}
 use Rattle.octets.specs.Padding.{padded}
 use Rattle.rules.specs.Security.{security_length}
-use borrow.Author.Rules.{rules}
 use Rattle.support.proofs.header.provider_start.Goals as goal
 
 pub overflow_sub-result : goal.overflow_sub-result

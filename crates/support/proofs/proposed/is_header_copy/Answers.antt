@@ -2,10 +2,7 @@
 use mathlib.Core.Path.{◌≡◌, refl, subst}
 use mathlib.Core.Bool.{true}
 use mathlib.Core.Logic.{◌↔◌}
-use borrow.Author.Rules.{rules}
-use borrow.Author.Tests.{not-false}
 use lib.ListN.{take}
-use Rattle.octets.proofs.Laws.Steps.{the}
 use Rattle.rules.specs.Judged.{masked, security_mask}
 use Rattle.rules.specs.Reading.{header_at, security_header}
 use Rattle.rules.specs.declared.security.SecurityFields.{SecurityFields}
@@ -31,7 +28,7 @@ pub returns : goal.returns
 unfolding header_at security_header
 returns c =
     let a = c.args in
-    rw (not-false a.security_first c.if-not-security_first.false)
+    rw c.if-not-security_first.false
     (subst
     (λ (x : SecurityFields).
     (c.is_security_copy.result ≡ true) ↔ (take a.at.0 a.proposed.now ≡ masked (security_mask x) a.s.now))

@@ -1,27 +1,21 @@
 -- The SecurityHeader is compared, where one stands first, and then the rest.
 use Prim.Native.Nat.{ℕ, ◌-◌}
 use mathlib.Core.Path.{◌≡◌, refl, ◌∙◌}
-use mathlib.Core.Bool.{Bool, true, false, not}
+use mathlib.Core.Bool.{Bool, true, false}
 use mathlib.Core.List.{List}
 use mathlib.Core.Logic.{◌↔◌}
 use native.Mathlib.Omega.{arith}
-use borrow.Author.Rules.{rules}
 use lib.ListN.{drop, length, take}
 use lib.Seq.{take_all}
 use Rattle.octets.proofs.Laws.Part.{rest-drop}
-use Rattle.octets.proofs.Laws.Steps.{the}
 use Rattle.rules.specs.Judged.{copy_of, masked, properties_mask}
 use Rattle.rules.specs.Reading.{header_at, summary_at}
 use Rattle.rules.proofs.Laws.Judged.{header_mask, length-properties_bits}
 use Rattle.support.specs.Laid.{SectionLaid}
 use Rattle.support.specs.declared.placed.Placed.{Placed}
 use Rattle.support.proofs.Laws.Compared.{Compared, compared-fails, compared-mask, compared-next, compared-rest}
-use Rattle.support.proofs.Laws.Laid.{Lies, header-ends, header-laid, rest-laid, section-lies, section-mask}
+use Rattle.support.proofs.Laws.Laid.{header-ends, header-laid, rest-laid, section-lies, section-mask}
 use Rattle.support.proofs.proposed.is_section_copy.Goals as goal
-use Rattle.support.proofs.proposed.is_section_copy.Goals.{Start}
-
-lies : (c : Start) → Lies c.args.section c.args.s.now c.args.proposed.now
-lies c = section-lies _ _ _ _ c.requires.section_laid
 
 -- what the comparison of the header has told
 module _ (first : Bool) (section : Placed) (s proposed : List ℕ) (l : SectionLaid first section s proposed)
@@ -34,7 +28,7 @@ module _ (first : Bool) (section : Placed) (s proposed : List ℕ) (l : SectionL
   whole = take_all (length proposed) proposed (omega arith)
 
   -- where it differs
-  differs : not header ≡ true → (false ≡ true) ↔ (proposed ≡ copy_of (summary_at first s) s)
+  differs : header ≡ false → (false ≡ true) ↔ (proposed ≡ copy_of (summary_at first s) s)
   unfolding copy_of
   differs wrong =
       let lies = section-lies first section s proposed l in
@@ -43,7 +37,7 @@ module _ (first : Bool) (section : Placed) (s proposed : List ℕ) (l : SectionL
       (section-mask first section s proposed l) wrong)
 
   -- where it does not, the rest tells
-  rest-tells : (rest : Bool) → not header ≡ false
+  rest-tells : (rest : Bool) → header ≡ true
       → (let p = section.start.0 in
       (rest ≡ true)
       ↔ (take (section.end.0 - p) (take (length proposed - p) (drop p proposed))
@@ -76,23 +70,23 @@ is_header_copy-requires c =
 
 pub slice_bounds-is_properties_copy-count : goal.slice_bounds-is_properties_copy-count
 slice_bounds-is_properties_copy-count c =
-    omega (arith, lies (goal.at.slice_bounds-is_properties_copy-count c).Start)
+    omega (arith, section-lies _ _ _ _ c.requires.section_laid)
 
 pub slice_bounds-is_properties_copy-start : goal.slice_bounds-is_properties_copy-start
 slice_bounds-is_properties_copy-start c =
-    omega (arith, lies (goal.at.slice_bounds-is_properties_copy-start c).Start)
+    omega (arith, section-lies _ _ _ _ c.requires.section_laid)
 
 pub overflow_sub-section : goal.overflow_sub-section
 overflow_sub-section c =
-    omega (arith, lies (goal.at.overflow_sub-section c).Start)
+    omega (arith, section-lies _ _ _ _ c.requires.section_laid)
 
 pub slice_bounds-is_properties_copy-count-2 : goal.slice_bounds-is_properties_copy-count-2
 slice_bounds-is_properties_copy-count-2 c =
-    omega (arith, lies (goal.at.slice_bounds-is_properties_copy-count-2 c).Start)
+    omega (arith, section-lies _ _ _ _ c.requires.section_laid)
 
 pub slice_bounds-is_properties_copy-start-2 : goal.slice_bounds-is_properties_copy-start-2
 slice_bounds-is_properties_copy-start-2 c =
-    omega (arith, lies (goal.at.slice_bounds-is_properties_copy-start-2 c).Start)
+    omega (arith, section-lies _ _ _ _ c.requires.section_laid)
 
 pub is_properties_copy-requires : goal.is_properties_copy-requires
 is_properties_copy-requires c =

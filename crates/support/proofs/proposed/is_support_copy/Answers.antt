@@ -2,9 +2,6 @@
 use mathlib.Core.Path.{◌≡◌, ap}
 use mathlib.Core.Bool.{false≢true}
 use native.Mathlib.Omega.{arith}
-use borrow.Author.Rules.{rules}
-use lib.ListN.{length}
-use Rattle.octets.proofs.Laws.Steps.{the}
 use Rattle.rules.specs.Reading.{judge}
 use Rattle.reading.proofs.Laws.Passed.{none_told, some-told}
 use Rattle.support.specs.Placed.{placed_at}
@@ -32,7 +29,8 @@ at : (c : After-section_end-end)
     }
     ≡ placed_at a.security_first a.s.now
 at c =
-    placed-told _ _ (none (search)) c.properties_start-start.ensures c.properties_fields-properties.ensures.value c.section_end-end.ensures
+    placed-told _ _ (none_told _ _ c.base_judge.ensures (omega arith)) c.properties_start-start.ensures
+    c.properties_fields-properties.ensures.value c.section_end-end.ensures
 
 pub returns-then-proposed-end : goal.returns-then-proposed-end
 unfolding placed_at

@@ -1,8 +1,6 @@
 -- Zeros written through a lent part.
 use Rattle.octets.proofs.Laws.Over.{zeros-lent}
-use Rattle.octets.proofs.Laws.Steps.{the}
 use native.Mathlib.Omega.{arith}
-use borrow.Author.Rules.{rules}
 use Rattle.support.proofs.run.hide.Goals as goal
 
 pub returns : goal.returns

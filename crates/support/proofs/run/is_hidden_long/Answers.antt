@@ -1,6 +1,4 @@
 -- The bytes looked at are so many zeros.
-use borrow.Author.Rules.{rules}
-use Rattle.octets.proofs.Laws.Steps.{the}
 use Rattle.support.proofs.Laws.Compared.{zeros-same}
 use Rattle.support.proofs.run.is_hidden_long.Goals as goal
 

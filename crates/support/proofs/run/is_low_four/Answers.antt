@@ -3,7 +3,6 @@ use Prim.Native.Nat.{◌%◌}
 use borrow.Author.Rules.{rules}
 use lib.ListN.{get_or}
 use lib.Seq.{drop-cons}
-use Rattle.octets.proofs.Laws.Steps.{the}
 use Rattle.rules.specs.Judged.{masked}
 use Rattle.support.proofs.Laws.Compared.{one_same}
 use Rattle.support.proofs.run.is_low_four.Goals as goal

@@ -1,13 +1,8 @@
 -- One store writes one byte.
-use mathlib.Core.Path.{ap, sym, ◌∙◌}
-use mathlib.Core.List.{List, [], ◌∷◌}
-use Prim.Native.Nat.{ℕ, ◌%◌}
-use native.Mathlib.Omega.{arith}
-use lib.ListN.{get_or, drop}
+use Prim.Native.Nat.{◌%◌}
+use lib.ListN.{get_or}
 use lib.Seq.{drop-cons}
-use Rattle.octets.specs.Over.{over_at}
 use Rattle.octets.proofs.Laws.Over.{over-one}
-use Rattle.octets.proofs.Laws.Steps.{the}
 use Rattle.rules.specs.Judged.{masked}
 use borrow.Author.Rules.{rules}
 use Rattle.support.proofs.run.low_four.Goals as goal

@@ -294,11 +294,14 @@ fn the_same_seed_gives_the_same_cases() {
             format!("{:?}", properties_case(&mut r)),
             format!("{:?}", day_table(&mut r)),
             format!("{:?}", portions_case(&mut r)),
+        ];
+        let sections = (texts, image(&mut r), day(&mut r));
+        let values = [
             format!("{:?}", value_case(&mut r)),
             format!("{:?}", typed_body(&mut r)),
             format!("{:?}", value_and_room(&mut r)),
         ];
-        (texts, image(&mut r), day(&mut r))
+        (sections, values)
     };
     assert_eq!(draw(), draw());
 }

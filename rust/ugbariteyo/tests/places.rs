@@ -239,7 +239,11 @@ fn headers_and_their_fields() {
         assert_eq!(field(SecurityHeader, number, P), "MessagePropertiesHeader Flags");
         assert_eq!(field(PropertiesHeader, number, 1), "LabelLength");
     }
-    for number in [13, 14, 15, 16, 20, 33, 60, 61, 62] {
+    for number in [13, 14, 15, 16, 20, 33] {
+        assert_eq!(field(SecurityHeader, number, 0), "no field");
+        assert_eq!(field(PropertiesHeader, number, 1), "no field");
+    }
+    for number in [60, 61, 62] {
         assert_eq!(field(SecurityHeader, number, 0), "no field");
         assert_eq!(field(PropertiesHeader, number, 1), "no field");
     }

@@ -1,6 +1,4 @@
 -- Each value is that of the definition.
-use borrow.Author.Rules.{rules}
-use Rattle.octets.proofs.Laws.Steps.{the}
 use Rattle.requests.specs.Defaults.{handling_of}
 use Rattle.defaulting.proofs.defaulted.handling_of.Goals as goal
 

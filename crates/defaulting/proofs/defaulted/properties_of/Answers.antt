@@ -1,6 +1,4 @@
 -- Each value is that of the definition.
-use borrow.Author.Rules.{rules}
-use Rattle.octets.proofs.Laws.Steps.{the}
 use Rattle.requests.specs.Defaults.{properties_of}
 use Rattle.requests.specs.declared.properties.Privacy.TheVariants.{Request}
 use Rattle.requests.specs.declared.properties.ProviderType.TheVariants.{Known}

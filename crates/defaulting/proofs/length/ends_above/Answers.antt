@@ -2,8 +2,6 @@
 use Prim.Native.Nat.{◌+◌}
 use mathlib.Core.Path.{ap, ◌∙◌}
 use lib.Dec.{ltb}
-use borrow.Author.Rules.{rules}
-use Rattle.octets.proofs.Laws.Steps.{the}
 use Rattle.rules.specs.Properties.{properties_length}
 use Rattle.rules.specs.Refusal.{limit}
 use Rattle.requests.proofs.Laws.Section.{cut-above}

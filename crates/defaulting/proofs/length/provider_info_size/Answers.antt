@@ -1,7 +1,5 @@
 -- The tests that led to each answer pick its case of `provider_info`.
 use native.Mathlib.Omega.{arith}
-use borrow.Author.Rules.{rules}
-use Rattle.octets.proofs.Laws.Steps.{the}
 use Rattle.requests.specs.Defaults.{provider_type}
 use Rattle.requests.proofs.Laws.Provider.{info-default, info-other, info-unsigned}
 use Rattle.requests.proofs.Laws.Text.{length-info}

@@ -1,7 +1,5 @@
 -- The rule, of the request's own sizes.
 use mathlib.Core.Path.{ap₂, ◌∙◌}
-use borrow.Author.Rules.{rules}
-use Rattle.octets.proofs.Laws.Steps.{the}
 use Rattle.rules.specs.Properties.{bad_allocation}
 use Rattle.requests.specs.Steps.{allocation_fails}
 use Rattle.defaulting.proofs.steps.allocation_fails.Goals as goal

@@ -2,7 +2,6 @@
 use mathlib.Core.Path.{ap}
 use mathlib.Core.Bool.{not}
 use borrow.Author.Rules.{rules}
-use Rattle.octets.proofs.Laws.Steps.{the}
 use Rattle.rules.proofs.Laws.Listed.{no-class}
 use Rattle.defaulting.proofs.steps.class_unlisted.Goals as goal
 

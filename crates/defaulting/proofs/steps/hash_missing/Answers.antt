@@ -1,5 +1,4 @@
 -- The tests that led to each answer pick its case of `hash_missing`.
-use borrow.Author.Rules.{rules}
 use Rattle.octets.proofs.Laws.Steps.{steps, told}
 use Rattle.requests.specs.Steps.{hash_missing}
 use Rattle.defaulting.proofs.steps.hash_missing.Goals as goal
@@ -8,11 +7,6 @@ pub returns-then-signature-eq0 : goal.returns-then-signature-eq0
 unfolding hash_missing
 returns-then-signature-eq0 c =
     search (steps, told) depth 20
-
-pub is_given-requires : goal.is_given-requires
-unfolding hash_missing
-is_given-requires c =
-    search rules
 
 pub returns : goal.returns
 unfolding hash_missing

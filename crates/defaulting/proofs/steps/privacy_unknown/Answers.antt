@@ -1,5 +1,4 @@
 -- The test is the definition's.
-use borrow.Author.Rules.{rules}
 use Rattle.octets.proofs.Laws.Steps.{told}
 use Rattle.defaulting.proofs.steps.privacy_unknown.Goals as goal
 

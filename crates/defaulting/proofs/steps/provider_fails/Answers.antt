@@ -1,5 +1,4 @@
 -- The tests that led to each answer pick its case of `provider_fails`.
-use borrow.Author.Rules.{rules}
 use Rattle.octets.proofs.Laws.Steps.{steps, told}
 use Rattle.requests.specs.Steps.{provider_fails}
 use Rattle.defaulting.proofs.steps.provider_fails.Goals as goal
@@ -9,20 +8,10 @@ unfolding provider_fails
 returns-then-signature-eq0 c =
     search steps depth 20
 
-pub is_one-requires : goal.is_one-requires
-unfolding provider_fails
-is_one-requires c =
-    search rules
-
 pub returns-then-request : goal.returns-then-request
 unfolding provider_fails
 returns-then-request c =
     simp c.if-request.true (search (steps, told) depth 20)
-
-pub name_fits-requires : goal.name_fits-requires
-unfolding provider_fails
-name_fits-requires c =
-    search rules
 
 pub returns : goal.returns
 unfolding provider_fails

@@ -1,7 +1,5 @@
 -- Each test is what its function promises.
 use mathlib.Core.Path.{refl}
-use borrow.Author.Rules.{rules}
-use Rattle.octets.proofs.Laws.Steps.{the}
 use Rattle.requests.specs.Steps.{retired_request}
 use Rattle.defaulting.proofs.steps.retired.Goals as goal
 

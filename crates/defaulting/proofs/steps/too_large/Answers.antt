@@ -1,9 +1,7 @@
 -- The rule, of the signature as it is cut.
 use Prim.Native.Nat.{ℕ}
 use mathlib.Core.Path.{ap, ◌∙◌}
-use borrow.Author.Rules.{rules}
 use lib.ListN.{length}
-use Rattle.octets.proofs.Laws.Steps.{the}
 use Rattle.rules.specs.Security.{part_too_large}
 use Rattle.requests.specs.Steps.{too_large}
 use Rattle.defaulting.proofs.steps.too_large.Goals as goal

@@ -1,5 +1,4 @@
 -- The test picks the case of `hex_digit`.
-use borrow.Author.Rules.{rules}
 use Rattle.octets.proofs.Laws.Steps.{steps}
 use Rattle.display.specs.Hex.{hex_digit}
 use Rattle.display.proofs.hex.hex_digit.Goals as goal

@@ -1,13 +1,11 @@
 -- The loop's invariant: the digits of the first `i` bytes are written, and the output is as long as it was.
-use Prim.Native.Nat.{ℕ, ◌-◌, ◌≤◌}
+use Prim.Native.Nat.{ℕ}
 use mathlib.Core.Path.{◌≡◌, refl, ap, ◌∙◌}
 use mathlib.Core.List.{[]}
 use native.Mathlib.Omega.{arith}
-use borrow.Author.Rules.{rules}
-use lib.ListN.{length, take, length-set}
+use lib.ListN.{take, length-set}
 use Rattle.octets.specs.Over.{over}
 use Rattle.octets.proofs.Laws.Over.{over_none, over-start}
-use Rattle.octets.proofs.Laws.Steps.{the}
 use Rattle.display.specs.Hex.{hex_of}
 use Rattle.display.proofs.Laws.Hex.{over-hex}
 use Rattle.display.proofs.hex.put_hex.Goals as goal
@@ -40,12 +38,8 @@ returns c =
 
 pub hex_digit-requires : goal.hex_digit-requires
 hex_digit-requires c =
-    omega (arith, c.shared_slice_known-in-loop-i-1.given c.loop-i.i)
+    omega (arith, c.type_inv.s c.loop-i.i)
 
 pub bounds-out-i-in-loop-i : goal.bounds-out-i-in-loop-i
 bounds-out-i-in-loop-i c =
     simp length-set (omega arith)
-
-pub shape_of-out : goal.shape_of-out
-shape_of-out c =
-    c.loop-i.invariant.1

@@ -1,15 +1,9 @@
 -- The loop's invariant: the digits of the first `i` bytes are written, and the output is as long as it was.
-use Prim.Native.Nat.{ℕ, ◌-◌, ◌≤◌}
-use mathlib.Core.Path.{◌≡◌, refl, ap, ◌∙◌}
-use mathlib.Core.List.{[]}
-use native.Mathlib.Omega.{arith}
-use borrow.Author.Rules.{rules}
-use lib.ListN.{length, take, length-set}
+use Prim.Native.Nat.{◌-◌, ◌≤◌}
+use mathlib.Core.Path.{◌≡◌}
+use lib.ListN.{length, take}
 use Rattle.octets.specs.Over.{over}
-use Rattle.octets.proofs.Laws.Over.{over_none, over-start}
-use Rattle.octets.proofs.Laws.Steps.{the}
 use Rattle.display.specs.Hex.{hex_of}
-use Rattle.display.proofs.Laws.Hex.{over-hex}
 use Rattle.display.proofs.hex.put_hex.Given as goal
 
 abbrev pub invariant-loop-i : goal.invariant-loop-i

@@ -1,13 +1,11 @@
 -- A unit as it is takes one store; an escape two, and the digits of the unit's two bytes, the high one first.
-use Prim.Native.Nat.{ℕ, ◌+◌, ◌/◌, ◌%◌}
-use mathlib.Core.Path.{◌≡◌, sym, ap, ◌∙◌}
-use mathlib.Core.List.{List, [], ◌∷◌}
+use Prim.Native.Nat.{ℕ, ◌/◌, ◌%◌}
+use mathlib.Core.Path.{sym, ap, ◌∙◌}
+use mathlib.Core.List.{List}
 use native.Mathlib.Omega.{arith}
-use borrow.Author.Rules.{rules}
 use lib.ListN.{length, length-set}
 use Rattle.octets.specs.Over.{over_at}
 use Rattle.octets.proofs.Laws.Over.{over-one}
-use Rattle.octets.proofs.Laws.Steps.{the}
 use Rattle.display.proofs.Laws.Shown.{length-escape, over-escape, plain-below, shown-escaped, shown-plain}
 use Rattle.display.proofs.shown.put_unit.Goals as goal
 
@@ -21,13 +19,11 @@ pub returns-then-is_plain : goal.returns-then-is_plain
 returns-then-is_plain c =
     let a = c.args in
     let plain = c.is_plain in
-    let e = shown-plain a.u (sym plain.ensures ∙ c.if-is_plain.true) in (
-      omega (arith, ap length e),
-      (
-        omega arith,
-        over-one a.at.0 a.u a.out.now (omega arith) ∙ ap (λ (bs : List ℕ). over_at a.at.0 bs a.out.now) (sym e),
-      ),
-    )
+    let e = shown-plain a.u (sym plain.ensures ∙ c.if-is_plain.true) in record {
+      result_value = omega (arith, ap length e);
+      result_bound = omega arith;
+      out_after = over-one a.at.0 a.u a.out.now (omega arith) ∙ ap (λ (bs : List ℕ). over_at a.at.0 bs a.out.now) (sym e);
+    }
 
 pub returns : goal.returns
 returns c =
@@ -35,14 +31,12 @@ returns c =
     let plain = c.is_plain in
     let w = c.put_hex in
     let e = shown-escaped a.u (sym plain.ensures ∙ c.if-is_plain.false) in
-    let n = ap length e ∙ length-escape (a.u / 256) (a.u % 256) in (
-      omega (arith, n),
-      (
-        omega arith,
-        over-escape a.at.0 a.out.now (omega arith) (a.u / 256) (a.u % 256) w.result.0 w.new.1.0 w.ensures.result_value w.ensures.out_after
-            ∙ ap (λ (bs : List ℕ). over_at a.at.0 bs a.out.now) (sym e),
-      ),
-    )
+    let n = ap length e ∙ length-escape (a.u / 256) (a.u % 256) in record {
+      result_value = omega (arith, n);
+      result_bound = omega arith;
+      out_after = over-escape a.at.0 a.out.now (omega arith) (a.u / 256) (a.u % 256) w.result.0 w.new.out w.ensures.result_value w.ensures.out_after
+          ∙ ap (λ (bs : List ℕ). over_at a.at.0 bs a.out.now) (sym e);
+    }
 
 pub bounds-out-i-3 : goal.bounds-out-i-3
 bounds-out-i-3 c =
@@ -55,7 +49,3 @@ slice_bounds-put_hex-count c =
 pub slice_bounds-put_hex-start : goal.slice_bounds-put_hex-start
 slice_bounds-put_hex-start c =
     simp length-set (omega arith)
-
-pub shape_of-out : goal.shape_of-out
-shape_of-out c =
-    c.out-1.given.1 ∙ simp length-set

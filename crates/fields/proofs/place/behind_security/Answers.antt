@@ -1,6 +1,4 @@
 -- The end of the SecurityHeader, where one stands first.
-use Rattle.octets.proofs.Laws.Steps.{the}
-use borrow.Author.Rules.{rules}
 use Rattle.fields.proofs.place.behind_security.Goals as goal
 
 pub returns-then-security_first : goal.returns-then-security_first

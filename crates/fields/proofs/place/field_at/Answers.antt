@@ -1,22 +1,14 @@
 -- Behind the input there is none; else it is among the fields of the header that holds the place.
 use Prim.Native.Nat.{ℕ, ◌-◌}
-use mathlib.Core.Path.{◌≡◌, ap, ap₂, ◌∙◌}
+use mathlib.Core.Path.{ap, ap₂, ◌∙◌}
 use mathlib.Core.List.{List}
 use native.Mathlib.Omega.{arith}
-use borrow.Author.Rules.{rules}
 use borrow.Author.Tests.{le-ltb, lt-leb, lt-ltb}
 use lib.ListN.{length}
-use Rattle.octets.proofs.Laws.Steps.{steps, the}
+use Rattle.octets.proofs.Laws.Steps.{steps}
 use Rattle.reading.specs.Fields.{properties_read}
 use Rattle.fields.specs.Field.{behind_security, field_at, field_in, properties_widths, security_widths}
 use Rattle.fields.proofs.place.field_at.Goals as goal
-use Rattle.fields.proofs.place.field_at.Goals.{After-behind_security-start}
-
--- where the MessagePropertiesHeader begins
-start : (c : After-behind_security-start)
-    → let a = c.args in
-    c.behind_security-start.result.0 ≡ behind_security a.security_first a.s.now
-start c = c.behind_security-start.ensures
 
 pub returns-then-place-start : goal.returns-then-place-start
 unfolding field_at
@@ -27,7 +19,7 @@ returns-then-place-start c =
     let p = behind_security a.security_first s in
     let fields = c.security_fields.ensures.value in
     let widths = c.security_widths-widths.ensures ∙ ap security_widths fields in
-    rw (lt-leb (length s) place (omega arith), lt-ltb place p (omega (arith, start (goal.at.returns-then-place-start c).After-behind_security-start)))
+    rw (lt-leb (length s) place (omega arith), lt-ltb place p (omega (arith, c.behind_security-start.ensures)))
     (c.field_in.ensures ∙ ap (λ (ws : List ℕ). field_in 1 ws place) widths)
 
 pub returns : goal.returns
@@ -37,52 +29,12 @@ returns c =
     let s = a.s.now in
     let place = a.place.0 in
     let p = behind_security a.security_first s in
-    let fields = c.properties_fields.ensures.value ∙ ap (properties_read s) (start (goal.at.returns c).After-behind_security-start) in
+    let fields = c.properties_fields.ensures.value ∙ ap (properties_read s) c.behind_security-start.ensures in
     let widths = c.properties_widths-widths.ensures ∙ ap properties_widths fields in
-    rw (lt-leb (length s) place (omega arith), le-ltb place p (omega (arith, start (goal.at.returns c).After-behind_security-start)))
-    (c.field_in-2.ensures ∙ ap₂ (λ (ws : List ℕ) (k : ℕ). field_in 18 ws (place - k)) widths (start (goal.at.returns c).After-behind_security-start))
-
-pub field_at_offset-requires : goal.field_at_offset-requires
-unfolding field_at
-field_at_offset-requires c =
-    search rules
+    rw (lt-leb (length s) place (omega arith), le-ltb place p (omega (arith, c.behind_security-start.ensures)))
+    (c.field_in-2.ensures ∙ ap₂ (λ (ws : List ℕ) (k : ℕ). field_in 18 ws (place - k)) widths c.behind_security-start.ensures)
 
 pub returns-then-s-place : goal.returns-then-s-place
 unfolding field_at
 returns-then-s-place c =
     search steps depth 20
-
-pub behind_security-start-requires : goal.behind_security-start-requires
-unfolding field_at
-behind_security-start-requires c =
-    search rules
-
-pub security_fields-requires : goal.security_fields-requires
-unfolding field_at
-security_fields-requires c =
-    search rules
-
-pub security_widths-widths-requires : goal.security_widths-widths-requires
-unfolding field_at
-security_widths-widths-requires c =
-    search rules
-
-pub field_in-requires : goal.field_in-requires
-unfolding field_at
-field_in-requires c =
-    search rules
-
-pub properties_fields-requires : goal.properties_fields-requires
-unfolding field_at
-properties_fields-requires c =
-    search rules
-
-pub properties_widths-widths-requires : goal.properties_widths-widths-requires
-unfolding field_at
-properties_widths-widths-requires c =
-    search rules
-
-pub field_in-requires-2 : goal.field_in-requires-2
-unfolding field_at
-field_in-requires-2 c =
-    search rules

@@ -1,15 +1,8 @@
 -- The loop's invariant: the field is the one at `rest` among those from `i` on.
-use Prim.Native.Nat.{ℕ, suc, ◌+◌, ◌-◌, ◌≤◌, ◌<◌}
-use mathlib.Core.Path.{◌≡◌, refl, ap, sym, ◌∙◌}
-use mathlib.Core.List.{List, []}
-use native.Mathlib.Nat.{add-zero}
-use native.Mathlib.Numerals.{add-one}
-use native.Mathlib.Omega.{arith}
-use borrow.Author.Tests.{le-ltb, lt-ltb}
-use lib.ListN.{length, get_or, drop, drop_of_length-le}
-use Rattle.octets.proofs.Laws.Steps.{the}
-use Rattle.fields.specs.Field.{field, field_in}
-use Rattle.fields.proofs.Laws.Field.{field_step}
+use Prim.Native.Nat.{◌+◌, ◌-◌, ◌≤◌}
+use mathlib.Core.Path.{◌≡◌}
+use lib.ListN.{length, drop}
+use Rattle.fields.specs.Field.{field_in}
 use Rattle.fields.proofs.place.field_in.Given as goal
 
 abbrev pub invariant-loop-i : goal.invariant-loop-i

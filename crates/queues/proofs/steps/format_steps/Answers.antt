@@ -1,5 +1,4 @@
 -- Each return is the first of `format_steps` whose test holds.
-use borrow.Author.Rules.{rules}
 use Rattle.octets.proofs.Laws.Steps.{steps}
 use Rattle.queues.specs.Steps.{format_steps}
 use Rattle.queues.proofs.steps.format_steps.Goals as goal
@@ -9,11 +8,6 @@ pub returns-then-format-gt-TYPE_SUBQUEUE : goal.returns-then-format-gt-TYPE_SUBQ
 unfolding format_steps
 returns-then-format-gt-TYPE_SUBQUEUE c =
     search steps depth 20
-
-pub pair_passes-requires : goal.pair_passes-requires
-unfolding format_steps
-pair_passes-requires c =
-    search rules
 
 -- 31
 pub returns-then-not-pair_passes : goal.returns-then-not-pair_passes

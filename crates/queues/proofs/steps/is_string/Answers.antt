@@ -1,8 +1,6 @@
 -- The length decides as the number of units does.
 use mathlib.Core.Path.{sym, ◌∙◌}
 use native.Mathlib.Omega.{arith}
-use borrow.Author.Rules.{rules}
-use Rattle.octets.proofs.Laws.Steps.{the}
 use Rattle.queues.proofs.Laws.Steps.{few-units, many-units, some-units}
 use Rattle.queues.proofs.steps.is_string.Goals as goal
 

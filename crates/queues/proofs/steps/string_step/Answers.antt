@@ -1,13 +1,7 @@
 -- The code makes the definition's test.
-use borrow.Author.Rules.{rules}
 use Rattle.octets.proofs.Laws.Steps.{steps}
 use Rattle.queues.specs.Steps.{string_step}
 use Rattle.queues.proofs.steps.string_step.Goals as goal
-
-pub is_string-requires : goal.is_string-requires
-unfolding string_step
-is_string-requires c =
-    search rules
 
 pub returns-then-not-is_string : goal.returns-then-not-is_string
 unfolding string_step

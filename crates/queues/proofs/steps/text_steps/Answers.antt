@@ -1,25 +1,14 @@
 -- Each return is the first of `text_steps` whose test holds.
-use borrow.Author.Rules.{rules}
 use Rattle.octets.proofs.Laws.Steps.{steps}
 use Rattle.rules.specs.Listed.{listed}
 use Rattle.queues.specs.Steps.{text_steps}
 use Rattle.queues.proofs.steps.text_steps.Goals as goal
-
-pub string_step-requires : goal.string_step-requires
-unfolding text_steps listed
-string_step-requires c =
-    search rules
 
 -- 33, type 3
 pub returns-then-kind-eq-TYPE_DIRECT : goal.returns-then-kind-eq-TYPE_DIRECT
 unfolding text_steps listed
 returns-then-kind-eq-TYPE_DIRECT c =
     search steps depth 20
-
-pub string_step-requires-then-kind-eq-TYPE_SUBQUEUE : goal.string_step-requires-then-kind-eq-TYPE_SUBQUEUE
-unfolding text_steps listed
-string_step-requires-then-kind-eq-TYPE_SUBQUEUE c =
-    search rules
 
 -- 33, type 8
 pub returns-then-kind-eq-TYPE_SUBQUEUE : goal.returns-then-kind-eq-TYPE_SUBQUEUE
@@ -32,11 +21,6 @@ pub returns-then-text-lt2 : goal.returns-then-text-lt2
 unfolding text_steps listed
 returns-then-text-lt2 c =
     search steps depth 20
-
-pub string_step-requires-then-kind-eq-TYPE_DL : goal.string_step-requires-then-kind-eq-TYPE_DL
-unfolding text_steps listed
-string_step-requires-then-kind-eq-TYPE_DL c =
-    search rules
 
 -- 33, type 6
 pub returns-then-kind-eq-TYPE_DL : goal.returns-then-kind-eq-TYPE_DL

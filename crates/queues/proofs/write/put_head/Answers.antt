@@ -1,6 +1,5 @@
 -- The four stores are the first bytes of an image.
 use native.Mathlib.Omega.{arith}
-use borrow.Author.Rules.{rules}
 use lib.ListN.{length-set}
 use Rattle.queues.proofs.Laws.Write.{head-over}
 use Rattle.queues.proofs.write.put_head.Goals as goal

@@ -2,10 +2,8 @@
 use Prim.Native.Nat.{◌+◌}
 use mathlib.Core.Path.{refl}
 use native.Mathlib.Omega.{arith}
-use borrow.Author.Rules.{rules}
 use lib.ListN.{length}
 use Rattle.octets.proofs.Laws.Over.{written-copied, written-first}
-use Rattle.octets.proofs.Laws.Steps.{the}
 use Rattle.queues.specs.Write.{image_bytes}
 use Rattle.queues.proofs.write.put_image.Goals as goal
 
@@ -17,6 +15,6 @@ returns c =
     let second = c.copy-2 in
     let fixed = a.fixed.now in
     let w1 = written-first c.put_head.ensures in
-    let w2 = written-copied 4 fixed first.new.1.0 w1 refl (omega arith) first.ensures in
-    let w3 = written-copied (4 + length fixed) a.text.now second.new.1.0 w2 refl (omega arith) second.ensures in
+    let w2 = written-copied 4 fixed first.new.out w1 refl (omega arith) first.ensures in
+    let w3 = written-copied (4 + length fixed) a.text.now second.new.out w2 refl (omega arith) second.ensures in
     w3.bytes

@@ -3,8 +3,6 @@ use Prim.Native.Nat.{ℕ}
 use mathlib.Core.Path.{◌≡◌, sym, ap, ◌∙◌}
 use mathlib.Core.List.{List, ◌++◌}
 use native.Mathlib.Omega.{arith}
-use borrow.Author.Rules.{rules}
-use Rattle.octets.proofs.Laws.Steps.{the}
 use Rattle.rules.proofs.Laws.Output.{ends-refused, ends-short}
 use Rattle.rules.specs.Refusal.{refusal}
 use Rattle.rules.specs.declared.section.Output.TheVariants.{Refused}
@@ -53,4 +51,5 @@ unfolding number start
 returns c =
     let a = c.args in
     let image = c.put_image.ensures in
-    has_room a.format a.fixed.now a.text.now a.out.now _ (passed (goal.at.returns c).Else-number-ne-PASSED) (omega arith) image
+    let end = has_room a.format a.fixed.now a.text.now a.out.now _ (passed (goal.at.returns c).Else-number-ne-PASSED) (omega arith) image in
+    record { value = end.0; out_after = end.1 }

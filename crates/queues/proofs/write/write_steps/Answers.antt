@@ -1,7 +1,6 @@
 -- Each return is the first of `write_steps` whose test holds.
 use mathlib.Core.Path.{sym, ◌∙◌}
-use borrow.Author.Rules.{rules}
-use Rattle.octets.proofs.Laws.Steps.{steps, the, told}
+use Rattle.octets.proofs.Laws.Steps.{steps, told}
 use Rattle.rules.specs.Refusal.{first_of}
 use Rattle.queues.specs.Write.{write_steps}
 use Rattle.queues.proofs.Laws.Steps.{value-split}
@@ -16,29 +15,14 @@ returns c =
     let v = c.text_steps.ensures ∙ sym (value-split a.format.kind a.fixed.now a.text.now size) in
     search (steps, told) depth 20
 
-pub format_steps-number-requires : goal.format_steps-number-requires
-unfolding write_steps first_of
-format_steps-number-requires c =
-    search rules
-
 -- 30, 31
 pub returns-then-number-ne-PASSED : goal.returns-then-number-ne-PASSED
 unfolding write_steps first_of
 returns-then-number-ne-PASSED c =
     search (steps, told) depth 20
 
-pub fixed_size-requires : goal.fixed_size-requires
-unfolding write_steps first_of
-fixed_size-requires c =
-    search rules
-
 -- 32
 pub returns-then-fixed-fixed_size : goal.returns-then-fixed-fixed_size
 unfolding write_steps first_of
 returns-then-fixed-fixed_size c =
     simp (← c.fixed_size.ensures) (search (steps, told) depth 20)
-
-pub text_steps-requires : goal.text_steps-requires
-unfolding write_steps first_of
-text_steps-requires c =
-    search rules

@@ -1,6 +1,5 @@
 -- The code is the definition.
 use mathlib.Core.Path.{refl}
-use borrow.Author.Rules.{rules}
 use Rattle.queues.specs.Format.{flags}
 use Rattle.queues.proofs.format.QueueFormat.flags.Goals as goal
 

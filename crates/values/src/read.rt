@@ -19,9 +19,8 @@ use reading::properties::properties_fields;
 use reading::section::{Judged, judge_once};
 use reading::security::security_fields;
 use rules::properties::PropertiesFields;
-use rules::refusal;
 use rules::refusal::Refusal;
-use rules::security::EB;
+use rules::{refusal, security};
 
 // The value, or the refusal.
 #[derive(Drop)]
@@ -125,7 +124,7 @@ fn is_encrypted(s: &[u8], security_first: bool) -> bool
     if !security_first {
         return false;
     }
-    security_fields(s).flags / EB % 2 == 1
+    security_fields(s).flags / security::EB % 2 == 1
 }
 
 // The body of the section whose MessagePropertiesHeader is at `at`.

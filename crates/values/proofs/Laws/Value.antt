@@ -5,7 +5,7 @@ use mathlib.Core.Bool.{Bool, true, false, cond, ◌||◌}
 use native.Mathlib.Omega.{arith}
 use borrow.Author.Tests.{eqb-true}
 use lib.Dec.{eqb}
-use lib.Ieee.{Float, Format, binary32, binary64, fits, nan_bits, of_bits}
+use lib.Ieee.{Float, Format, binary32, binary64, nan_bits, of_bits}
 use Rattle.rules.specs.Listed.{listed}
 use Rattle.values.specs.Theorems.{Fits, OneWay}
 use Rattle.values.specs.Value.{binary32_bits, binary32_of, binary64_bits, binary64_of}

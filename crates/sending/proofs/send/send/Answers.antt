@@ -2,11 +2,9 @@
 use Prim.Native.Nat.{ℕ, ◌≤◌, ◌<◌}
 use mathlib.Core.Path.{◌≡◌, refl, sym, ap, ◌∙◌}
 use native.Mathlib.Omega.{arith}
-use borrow.Author.Rules.{rules}
 use lib.ListN.{get_or, length, take}
 use lib.Seq.{length-take-le}
 use Rattle.octets.proofs.Laws.Part.{rest-drop}
-use Rattle.octets.proofs.Laws.Steps.{the}
 use Rattle.rules.specs.Output.{writer_output}
 use Rattle.requests.specs.Request.{SendRequest, held_request}
 use Rattle.requests.specs.Section.{label_with}

@@ -2,10 +2,8 @@
 use Prim.Native.Nat.{◌≤◌}
 use mathlib.Core.Path.{sym}
 use native.Mathlib.Omega.{arith}
-use borrow.Author.Rules.{rules}
 use lib.ListN.{length}
 use lib.Seq.{length-take-le}
-use Rattle.octets.proofs.Laws.Steps.{the}
 use Rattle.requests.specs.Section.{provider_info}
 use Rattle.requests.proofs.Laws.Provider.{info-most}
 use Rattle.sending.proofs.Laws.Send.{held}

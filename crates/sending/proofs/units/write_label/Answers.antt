@@ -1,8 +1,6 @@
 -- No label for no unit, else a text.
 use native.Mathlib.Omega.{arith}
-use borrow.Author.Rules.{rules}
 use Rattle.octets.proofs.Laws.Over.{written_none}
-use Rattle.octets.proofs.Laws.Steps.{the}
 use Rattle.requests.proofs.Laws.Text.{length-nulled}
 use Rattle.sending.proofs.Laws.Units.{label-none, label-some}
 use Rattle.sending.proofs.units.write_label.Goals as goal

@@ -3,13 +3,11 @@ use Prim.Native.Nat.{ℕ, ◌+◌, ◌*◌, ◌/◌, ◌%◌, ◌≤◌}
 use mathlib.Core.Path.{◌≡◌, refl, sym, ap, ◌∙◌}
 use mathlib.Core.List.{List, [], ◌∷◌, ◌++◌}
 use native.Mathlib.Omega.{arith}
-use borrow.Author.Rules.{rules}
 use lib.ListN.{length}
 use Rattle.octets.specs.Number.{to_le}
 use Rattle.octets.specs.Over.{over}
 use Rattle.octets.specs.Text.{unit_bytes}
 use Rattle.octets.proofs.Laws.Over.{written-first, written_none, written-rest}
-use Rattle.octets.proofs.Laws.Steps.{the}
 use Rattle.octets.proofs.Laws.UnitBytes.{length-unit_bytes}
 use Rattle.requests.specs.Defaults.{provider_type}
 use Rattle.requests.specs.Section.{provider_info}

@@ -1,8 +1,6 @@
 -- The units, and one more of which both bytes are zero.
 use native.Mathlib.Omega.{arith}
-use borrow.Author.Rules.{rules}
 use lib.ListN.{length-set}
-use Rattle.octets.proofs.Laws.Steps.{the}
 use Rattle.sending.proofs.Laws.Units.{over-unit}
 use Rattle.sending.proofs.units.write_text.Goals as goal
 

@@ -1,7 +1,5 @@
 -- Each value is that of the definition.
 use mathlib.Core.Path.{ap, ◌∙◌}
-use borrow.Author.Rules.{rules}
-use Rattle.octets.proofs.Laws.Steps.{the}
 use Rattle.requests.specs.Section.{security_flags}
 use Rattle.sending.specs.Send.{values_of}
 use Rattle.sending.proofs.values.section_values.Goals as goal

@@ -1,7 +1,7 @@
 -- A NaN's pattern is kept, any other is a number's.
 use mathlib.Core.Path.{sym, ◌∙◌}
 use borrow.Author.Rules.{rules}
-use Rattle.octets.proofs.Laws.Steps.{steps, the}
+use Rattle.octets.proofs.Laws.Steps.{steps}
 use Rattle.values.specs.Value.{binary64_of}
 use Rattle.values.proofs.Laws.Float.{fails}
 use Rattle.values.proofs.bits.binary64_of.Goals as goal

@@ -1,6 +1,5 @@
 -- Only a NaN differs from itself.
 use mathlib.Core.Path.{ap, sym}
-use borrow.Author.Rules.{rules}
 use lib.Ieee.{binary32, is_nan, to_bits}
 use Rattle.values.proofs.Laws.Float.{differs, fails, not-nan}
 use Rattle.values.proofs.bits.number_bits_32.Goals as goal

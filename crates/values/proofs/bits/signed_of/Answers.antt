@@ -1,7 +1,6 @@
 -- The machine reads the lower half so; the upper half is reached from -1 downwards.
 use native.Mathlib.Omega.{arith}
 use mathlib.Core.Path.{ap, sym, ◌∙◌}
-use borrow.Author.Rules.{rules}
 use mir.Syntax.{w32}
 use mir.Val.{of_z, to_z}
 use lib.IntN.{ℤ, negsuc}

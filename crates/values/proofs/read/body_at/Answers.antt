@@ -1,9 +1,7 @@
 -- The body begins behind label and extension.
 use mathlib.Core.Path.{ap, ◌∙◌}
 use Prim.Native.Nat.{ℕ, ◌+◌}
-use borrow.Author.Rules.{rules}
 use Rattle.octets.specs.Part.{within}
-use Rattle.octets.proofs.Laws.Steps.{the}
 use Rattle.rules.specs.Properties.{body_at, extension_at, properties_parts}
 use Rattle.values.proofs.read.body_at.Goals as goal
 

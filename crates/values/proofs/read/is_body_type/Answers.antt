@@ -2,7 +2,6 @@
 use mathlib.Core.Path.{refl}
 use mathlib.Core.List.{[], ◌∷◌}
 use borrow.Author.Rules.{rules}
-use Rattle.octets.proofs.Laws.Steps.{the}
 use Rattle.rules.proofs.Laws.Listed.{in-gap, in-range, is_key}
 use Rattle.values.specs.Value.{body_types}
 use Rattle.values.proofs.read.is_body_type.Goals as goal
@@ -10,7 +9,7 @@ use Rattle.values.proofs.read.is_body_type.Goals as goal
 pub returns-in-19 : goal.returns-in-19
 unfolding body_types
 returns-in-19 c =
-    is_key body_types _ _ c.in-19.keys1 refl
+    is_key body_types _ _ c.in-19.is refl
 
 pub returns-in-3-to-5 : goal.returns-in-3-to-5
 unfolding body_types
@@ -20,9 +19,9 @@ returns-in-3-to-5 c =
 pub returns-in_default : goal.returns-in_default
 unfolding body_types
 returns-in_default c =
-    in-gap body_types (19 ∷ []) 0 3 _ refl c.in_default-1.rest (search rules) (search rules)
+    in-gap body_types (19 ∷ []) 0 3 _ refl (search rules) (search rules) (search rules)
 
 pub returns-in_default-2 : goal.returns-in_default-2
 unfolding body_types
 returns-in_default-2 c =
-    in-gap body_types (19 ∷ []) 6 0x100000000 _ refl c.in_default-1.rest (search rules) (search rules)
+    in-gap body_types (19 ∷ []) 6 0x100000000 _ refl (search rules) (search rules) (search rules)

@@ -1,10 +1,7 @@
 -- Flags as the code reads them are those of the header that passed.
 use mathlib.Core.Path.{ap, ◌∙◌}
 use mathlib.Core.Bool.{true}
-use borrow.Author.Rules.{rules}
-use borrow.Author.Tests.{not-false, not-true}
 use lib.Dec.{eqb}
-use Rattle.octets.proofs.Laws.Steps.{the}
 use Rattle.rules.specs.Reading.{header_at, security_header, summary_at}
 use Rattle.rules.specs.Security.{EB}
 use Rattle.rules.specs.Summary.{no_security, summary_of}
@@ -15,13 +12,13 @@ use Rattle.values.proofs.read.is_encrypted.Goals as goal
 
 pub returns-then-not-security_first : goal.returns-then-not-security_first
 unfolding header_at no_security
-returns-then-not-security_first c = rw (not-true c.args.security_first c.if-not-security_first.true)
+returns-then-not-security_first c = rw c.if-not-security_first.true
 
 pub returns : goal.returns
 unfolding header_at security_header summary_at summary_of
 returns c =
     let s = c.args.s.now in
-    let first = not-false c.args.security_first c.if-not-security_first.false in
+    let first = c.if-not-security_first.false in
     let passed = (judge-passed true s).0 (rw first at c.requires) in
     let fields = c.security_fields.ensures.value ∙ security-read s passed.security.fixed in
     rw first (ap (λ (f : SecurityFields). eqb (EB f) 1) fields)

@@ -3,10 +3,8 @@ use Prim.Native.Nat.{ℕ, ◌≤◌}
 use mathlib.Core.Path.{ap₂, sym, subst, ◌∙◌}
 use mathlib.Core.Bool.{Bool}
 use mathlib.Core.List.{List}
-use borrow.Author.Rules.{rules}
 use lib.Dec.{eqb}
 use lib.ListN.{length}
-use Rattle.octets.proofs.Laws.Steps.{the}
 use Rattle.rules.specs.Reading.{header_at, summary_at}
 use Rattle.rules.specs.Refusal.{limit}
 use Rattle.rules.specs.Properties.{properties_parts}
@@ -20,13 +18,13 @@ use Rattle.reading.proofs.Laws.Fields.{accepted}
 use Rattle.values.specs.Read.{read_value, section_value, value_in}
 use Rattle.values.proofs.Laws.Body.{value-at}
 use Rattle.values.proofs.read.read_value.Goals as goal
-use Rattle.values.proofs.read.read_value.Goals.{In-Passed-2}
+use Rattle.values.proofs.read.read_value.Goals.{In-Passed}
 
 -- judging, where every step passed
-told : (c : In-Passed-2) → let a = c.args in Once a.security_first a.s.now (Passed c.at-1.given.0.0)
-told c = once-told _ _ (sym c.at-1.given.1 ∙ c.judge_once.ensures)
+told : (c : In-Passed) → let a = c.args in Once a.security_first a.s.now (Passed c.in-Passed.at)
+told c = once-told _ _ (sym c.in-Passed.is ∙ c.judge_once.ensures)
 
-small : (c : In-Passed-2) → c.at-1.given.0.0.0 ≤ limit
+small : (c : In-Passed) → c.in-Passed.at.0 ≤ limit
 small c =
     let a = c.args in
     let none = (told c).0 in
@@ -37,7 +35,7 @@ pub returns-in-Refused : goal.returns-in-Refused
 unfolding read_value section_value
 returns-in-Refused c =
     let judged = c.judge_once.ensures in
-    rw (once-told _ _ (sym c.refusal-1.given.1 ∙ judged))
+    rw (once-told _ _ (sym c.in-Refused.is ∙ judged))
 
 pub returns-in-Passed : goal.returns-in-Passed
 unfolding summary_at summary_of
@@ -45,7 +43,7 @@ returns-in-Passed c =
     let a = c.args in
     let s = a.s.now in
     let first = a.security_first in
-    let passed = told (goal.at.returns-in-Passed c).In-Passed-2 in
+    let passed = told (goal.at.returns-in-Passed c).In-Passed in
     let fields = fields_told first s passed.0 passed.1 c.properties_fields-fields.ensures.value in
     let start = start-told first s passed.0 passed.1 in
     let read = c.properties_fields-fields.result in
@@ -61,11 +59,11 @@ returns-in-Passed c =
 
 pub is_encrypted-encrypted-requires : goal.is_encrypted-encrypted-requires
 is_encrypted-encrypted-requires c =
-    (told (goal.at.is_encrypted-encrypted-requires c).In-Passed-2).0
+    (told (goal.at.is_encrypted-encrypted-requires c).In-Passed).0
 
 pub body_at-requires : goal.body_at-requires
 body_at-requires c =
     record {
       properties_sizes = c.properties_fields-fields.ensures.properties_sizes;
-      at_le_limit = small (goal.at.body_at-requires c).In-Passed-2;
+      at_le_limit = small (goal.at.body_at-requires c).In-Passed;
     }

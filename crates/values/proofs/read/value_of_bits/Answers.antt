@@ -2,7 +2,7 @@
 use mathlib.Core.Path.{◌∙◌}
 use native.Mathlib.Nat.{mod-lt}
 use borrow.Author.Rules.{rules}
-use Rattle.octets.proofs.Laws.Steps.{steps, the}
+use Rattle.octets.proofs.Laws.Steps.{steps}
 use Rattle.values.specs.Read.{value_of_bits}
 use Rattle.values.proofs.Laws.Body.{some_bits}
 use Rattle.values.proofs.read.value_of_bits.Goals as goal

@@ -3,11 +3,10 @@ use Prim.Native.Nat.{ℕ, ◌%◌, ◌^◌, ◌<◌}
 use mathlib.Core.Path.{◌≡◌, ap, refl, ◌∙◌}
 use native.Mathlib.Nat.{mod-eq_of_lt}
 use native.Mathlib.Omega.{arith}
-use borrow.Author.Rules.{rules}
 use lib.IntN.{ℤ}
 use mir.Syntax.{w32}
 use mir.Val.{of_z, to_z}
-use Rattle.octets.proofs.Laws.Steps.{steps, the}
+use Rattle.octets.proofs.Laws.Steps.{steps}
 use Rattle.values.specs.Value.{binary32_of, size_of, signed, value_from}
 use Rattle.values.specs.declared.value.BodyValue.{BodyValue}
 use Rattle.values.specs.declared.value.BodyValue.TheVariants.{I32, U32, F32, F64}
@@ -32,7 +31,7 @@ unfolding value_from size_of
 returns-then-body_type-eq-VT_I4 c =
     let e = c.if-body_type-eq-VT_I4.true in
     let bits = small (goal.at.returns-then-body_type-eq-VT_I4 c).Start 3 e (search steps) in
-    rw e (kept _ _ (λ (n : ℕ). I32 (signed n)) _ (held _ _ c.Signed-of.ensures (omega arith)) (omega (arith, bits)))
+    rw e (kept _ _ (λ (n : ℕ). I32 (signed n)) _ (held _ _ c.signed_of.ensures (omega arith)) (omega (arith, bits)))
 
 pub returns-then-body_type-eq-VT_UI4 : goal.returns-then-body_type-eq-VT_UI4
 unfolding value_from size_of

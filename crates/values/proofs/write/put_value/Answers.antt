@@ -1,9 +1,7 @@
 -- Eight bytes or four are copied.
 use mathlib.Core.Path.{ap, sym, ◌∙◌}
-use borrow.Author.Rules.{rules}
 use Rattle.octets.specs.Number.{to_le}
 use Rattle.octets.proofs.Laws.Number.{to_le-mod}
-use Rattle.octets.proofs.Laws.Steps.{the}
 use Rattle.values.proofs.Laws.Write.{eight-bytes, four_bytes, value-copied}
 use Rattle.values.proofs.write.put_value.Goals as goal
 

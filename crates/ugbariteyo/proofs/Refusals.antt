@@ -21,11 +21,9 @@ use Rattle.rules.specs.declared.section.Output.{Output}
 use Rattle.rules.specs.declared.section.Output.TheVariants.{Written, Refused}
 use Rattle.rules.specs.declared.section.Part.{Part}
 use Rattle.rules.specs.declared.section.Reading.TheVariants.{Accepted as Reading-as-Accepted}
-use Rattle.writing.specs.Given.{Given}
 use Rattle.writing.specs.Writing.{layout_length, write_answer, write_refusal}
 use Rattle.queues.specs.Read.{image_of, image_steps, read_image}
 use Rattle.queues.specs.Write.{image_bytes, write_answer as write_image, write_steps}
-use Rattle.queues.specs.declared.format.QueueFormat.{QueueFormat}
 use Rattle.queues.specs.declared.image.ImageRead.TheVariants.{Accepted as ImageRead-as-Accepted}
 use Rattle.requests.specs.Defaults.{correlation_of, properties}
 use Rattle.requests.specs.Request.{SendRequest}

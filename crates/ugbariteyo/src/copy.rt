@@ -7,16 +7,14 @@ use crate::output::{UgbOutput, output_answer};
 use support::copy::support_copy;
 use support::proposed::is_support_copy;
 
-#[unsafe(no_mangle)]
-pub extern "C" fn ugb_support_copy(s: &[u8], security_first: bool, out: &mut [u8]) -> UgbOutput
+pub fn ugb_support_copy(s: &[u8], security_first: bool, out: &mut [u8]) -> UgbOutput
     ensures value { result ≡ output_answer (support_answer security_first s.now out.old) }
     ensures out_after { out.new ≡ support_bytes security_first s.now out.old }
 {
     output_answer(support_copy(s, security_first, out))
 }
 
-#[unsafe(no_mangle)]
-pub extern "C" fn ugb_is_support_copy(s: &[u8], security_first: bool, proposed: &[u8]) -> bool
+pub fn ugb_is_support_copy(s: &[u8], security_first: bool, proposed: &[u8]) -> bool
     ensures { (result ≡ true) ↔ IsSupportCopy security_first s.now proposed.now }
 {
     is_support_copy(s, security_first, proposed)

@@ -20,8 +20,7 @@ pub struct UgbDefaulted {
     pub correlation_id: CorrelationId,
 }
 
-#[unsafe(no_mangle)]
-pub extern "C" fn ugb_defaulted_positional(
+pub fn ugb_defaulted_positional(
     request: UgbRequest,
     title: &[u16],
     sender_id: &[u8],

@@ -6,8 +6,7 @@ use fields::field::FieldAt;
 use fields::place::refused_field;
 use rules::refusal::Refusal;
 
-#[unsafe(no_mangle)]
-pub extern "C" fn ugb_refused_field(s: &[u8], security_first: bool, refusal: Refusal) -> FieldAt
+pub fn ugb_refused_field(s: &[u8], security_first: bool, refusal: Refusal) -> FieldAt
     ensures { result ≡ refused_field security_first s.now refusal }
 {
     refused_field(s, security_first, refusal)

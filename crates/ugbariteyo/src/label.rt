@@ -14,8 +14,7 @@ pub struct UgbLabel {
     pub part: Part,
 }
 
-#[unsafe(no_mangle)]
-pub extern "C" fn ugb_label_shown(s: &[u8], security_first: bool) -> UgbLabel
+pub fn ugb_label_shown(s: &[u8], security_first: bool) -> UgbLabel
     ensures value { result ≡ label_answer (summarize security_first s.now) }
     ensures by_index { (stand_in : List ℕ) → bytes_shown s.now stand_in result ≡ label_shown security_first s.now stand_in }
 {

@@ -1,6 +1,7 @@
 #![tactic(auto)]
-// The library for C, and for what calls as C does: include/ugbariteyo.h declares it. A slice passes as pointer and
-// length, a struct by value. No enum passes, so an answer is a struct that holds the refusal beside the value.
+// What C calls, and what calls as C does: include/ugbariteyo.h declares it, and the exports are the crate `ugbariteyo_c`.
+// A slice passes as pointer and length, a struct by value. No enum passes, so an answer is a struct that holds the
+// refusal beside the value.
 pub mod copy;
 pub mod defaulted;
 pub mod field;

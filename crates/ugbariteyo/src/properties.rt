@@ -210,8 +210,7 @@ pub(crate) fn properties_answer(p: Properties) -> UgbProperties
 }
 
 // The properties of a section that was read; of a refused reading's, which is zero, all is zero.
-#[unsafe(no_mangle)]
-pub extern "C" fn ugb_properties_of(section: Section) -> UgbProperties
+pub fn ugb_properties_of(section: Section) -> UgbProperties
     ensures { result ≡ properties_answer (section_properties section) }
 {
     properties_answer(section_properties(section))

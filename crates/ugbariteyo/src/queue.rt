@@ -23,8 +23,7 @@ pub struct UgbImageRead {
     pub text: Part,
 }
 
-#[unsafe(no_mangle)]
-pub extern "C" fn ugb_read_image(s: &[u8]) -> UgbImageRead
+pub fn ugb_read_image(s: &[u8]) -> UgbImageRead
     ensures value { result ≡ image_answer (read_image s.now) }
     ensures written_again { WrittenAgain s.now result }
 {
@@ -51,13 +50,7 @@ pub extern "C" fn ugb_read_image(s: &[u8]) -> UgbImageRead
     }
 }
 
-#[unsafe(no_mangle)]
-pub extern "C" fn ugb_write_image(
-    format: QueueFormat,
-    fixed: &[u8],
-    text: &[u8],
-    out: &mut [u8],
-) -> UgbOutput
+pub fn ugb_write_image(format: QueueFormat, fixed: &[u8], text: &[u8], out: &mut [u8]) -> UgbOutput
     ensures value { result ≡ output_answer (write_answer format fixed.now text.now out.old) }
     ensures out_after { out.new ≡ write_bytes format fixed.now text.now out.old }
 {

@@ -98,8 +98,7 @@ fn found_answer(listed: Record) -> UgbRecord
     }
 }
 
-#[unsafe(no_mangle)]
-pub extern "C" fn ugb_next_record(s: &[u8]) -> UgbRecord
+pub fn ugb_next_record(s: &[u8]) -> UgbRecord
     ensures value { result ≡ record_answer (next_record s.now) }
     ensures section_judged { SectionJudged s.now result }
 {

@@ -17,8 +17,7 @@ pub struct UgbReading {
     pub section: Section,
 }
 
-#[unsafe(no_mangle)]
-pub extern "C" fn ugb_read(s: &[u8], security_first: bool) -> UgbReading
+pub fn ugb_read(s: &[u8], security_first: bool) -> UgbReading
     ensures { result ≡ reading_answer (read security_first s.now) }
 {
     match reading_case(s, security_first) {
@@ -43,8 +42,7 @@ pub extern "C" fn ugb_read(s: &[u8], security_first: bool) -> UgbReading
     }
 }
 
-#[unsafe(no_mangle)]
-pub extern "C" fn ugb_same_summary(a: &[u8], b: &[u8], security_first: bool) -> bool
+pub fn ugb_same_summary(a: &[u8], b: &[u8], security_first: bool) -> bool
     ensures { (result ≡ true → SameSummary security_first a.now b.now)
         × (SameSummary security_first a.now b.now → result ≡ true) }
 {

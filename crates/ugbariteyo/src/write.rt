@@ -8,8 +8,7 @@ use crate::output::{UgbOutput, output_answer};
 use writing::section::write_section;
 use writing::values::SectionValues;
 
-#[unsafe(no_mangle)]
-pub extern "C" fn ugb_write_section_positional(
+pub fn ugb_write_section_positional(
     values: SectionValues,
     sender_id: &[u8],
     encryption_key: &[u8],

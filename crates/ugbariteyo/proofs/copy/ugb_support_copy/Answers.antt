@@ -1,8 +1,6 @@
 -- The answer is handed on.
 use mathlib.Core.Path.{ap, ◌∙◌}
 use Rattle.ugbariteyo.specs.Output.{output_answer}
-use borrow.Author.Rules.{rules}
-use Rattle.octets.proofs.Laws.Steps.{the}
 use Rattle.ugbariteyo.proofs.copy.ugb_support_copy.Goals as goal
 
 pub returns : goal.returns

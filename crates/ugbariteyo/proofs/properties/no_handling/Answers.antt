@@ -1,6 +1,5 @@
 -- All is 0.
 use Rattle.ugbariteyo.specs.Properties.{no_handling}
-use borrow.Author.Rules.{rules}
 use Rattle.ugbariteyo.proofs.properties.no_handling.Goals as goal
 
 pub returns : goal.returns

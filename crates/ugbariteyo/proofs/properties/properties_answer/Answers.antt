@@ -1,7 +1,5 @@
 -- Each value is handed on.
 use Rattle.ugbariteyo.specs.Properties.{properties_answer}
-use borrow.Author.Rules.{rules}
-use Rattle.octets.proofs.Laws.Steps.{the}
 use Rattle.ugbariteyo.proofs.properties.properties_answer.Goals as goal
 
 pub returns : goal.returns

@@ -1,6 +1,5 @@
 -- The properties of the section, as one struct.
 use mathlib.Core.Path.{ap, ◌∙◌}
-use borrow.Author.Rules.{rules}
 use Rattle.ugbariteyo.specs.Properties.{properties_answer}
 use Rattle.ugbariteyo.proofs.properties.ugb_properties_of.Goals as goal
 

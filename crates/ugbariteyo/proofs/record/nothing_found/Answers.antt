@@ -1,7 +1,5 @@
 -- All is 0 but for the mark.
 use Rattle.ugbariteyo.specs.Record.{nothing_found}
-use borrow.Author.Rules.{rules}
-use Rattle.octets.proofs.Laws.Steps.{the}
 use Rattle.ugbariteyo.proofs.record.nothing_found.Goals as goal
 
 pub returns : goal.returns

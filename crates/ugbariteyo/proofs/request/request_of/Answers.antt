@@ -1,6 +1,5 @@
 -- Each value is converted.
 use Rattle.ugbariteyo.specs.Request.{request_of}
-use borrow.Author.Rules.{rules}
 use Rattle.ugbariteyo.proofs.request.request_of.Goals as goal
 
 pub returns : goal.returns

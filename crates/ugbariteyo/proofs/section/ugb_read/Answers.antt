@@ -1,12 +1,10 @@
 -- The case of the reading picks the answer's.
 use mathlib.Core.Path.{◌≡◌, ap, sym, ◌∙◌}
-use Rattle.octets.proofs.Laws.Steps.{the}
 use Rattle.rules.specs.Reading.{read}
 use Rattle.rules.specs.declared.section.Reading.{Reading}
 use Rattle.reading.specs.declared.section.ReadingCase.{ReadingCase}
 use Rattle.reading.proofs.Laws.Case.{case-reading, reading_of}
 use Rattle.ugbariteyo.specs.Section.{reading_answer}
-use borrow.Author.Rules.{rules}
 use Rattle.ugbariteyo.proofs.section.ugb_read.Goals as goal
 use Rattle.ugbariteyo.proofs.section.ugb_read.Goals.{After-reading_case}
 
@@ -19,12 +17,12 @@ picked c k e = sym (case-reading _ _) ∙ ap reading_of (sym c.reading_case.ensu
 
 pub returns-in-Refused : goal.returns-in-Refused
 unfolding answer reading_answer
-returns-in-Refused c = rw (picked (goal.at.returns-in-Refused c).After-reading_case _ c.refusal-1.given.1, c.no_section.ensures)
+returns-in-Refused c = rw (picked (goal.at.returns-in-Refused c).After-reading_case _ c.in-Refused.is, c.no_section.ensures)
 
 pub returns-in-WithSecurity : goal.returns-in-WithSecurity
 unfolding answer reading_answer
-returns-in-WithSecurity c = rw (picked (goal.at.returns-in-WithSecurity c).After-reading_case _ c.section-1.given.1, c.no_refusal.ensures)
+returns-in-WithSecurity c = rw (picked (goal.at.returns-in-WithSecurity c).After-reading_case _ c.in-WithSecurity.is, c.no_refusal.ensures)
 
 pub returns-in-WithoutSecurity : goal.returns-in-WithoutSecurity
 unfolding answer reading_answer
-returns-in-WithoutSecurity c = rw (picked (goal.at.returns-in-WithoutSecurity c).After-reading_case _ c.section-in-WithoutSecurity-1.given.1, c.no_refusal-in-WithoutSecurity.ensures)
+returns-in-WithoutSecurity c = rw (picked (goal.at.returns-in-WithoutSecurity c).After-reading_case _ c.in-WithoutSecurity.is, c.no_refusal-in-WithoutSecurity.ensures)

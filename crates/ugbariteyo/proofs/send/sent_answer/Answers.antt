@@ -1,19 +1,13 @@
 -- The answer picks the case.
 use Rattle.ugbariteyo.specs.Send.{sent_answer}
-use borrow.Author.Rules.{rules}
 use Rattle.ugbariteyo.proofs.send.sent_answer.Goals as goal
-
-pub no_refusal-requires : goal.no_refusal-requires
-unfolding sent_answer
-no_refusal-requires c =
-    search rules
 
 pub returns-in-Refused : goal.returns-in-Refused
 unfolding sent_answer
 returns-in-Refused c =
-    simp c.output-1.given.1
+    simp c.in-Refused.is
 
 pub returns-in-Written : goal.returns-in-Written
 unfolding sent_answer
 returns-in-Written c =
-    simp (c.output-in-Written-1.given.1, c.no_refusal.ensures)
+    simp (c.in-Written.is, c.no_refusal.ensures)

@@ -1,8 +1,6 @@
 -- The answer is handed on.
 use mathlib.Core.Path.{ap, ◌∙◌}
 use Rattle.ugbariteyo.specs.Output.{output_answer}
-use borrow.Author.Rules.{rules}
-use Rattle.octets.proofs.Laws.Steps.{the}
 use Rattle.ugbariteyo.proofs.write.ugb_write_section_positional.Goals as goal
 
 pub returns : goal.returns

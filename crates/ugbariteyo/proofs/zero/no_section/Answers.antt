@@ -1,6 +1,5 @@
 -- All numbers are 0.
 use Rattle.ugbariteyo.specs.Zero.{no_section}
-use borrow.Author.Rules.{rules}
 use Rattle.ugbariteyo.proofs.zero.no_section.Goals as goal
 
 pub returns : goal.returns

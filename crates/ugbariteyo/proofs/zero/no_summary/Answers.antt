@@ -6,7 +6,6 @@ use Rattle.rules.specs.Listed.{listed, privacy_levels}
 use Rattle.rules.specs.Properties.{properties_fields}
 use Rattle.rules.specs.Summary.{authentication_fails, decryption_fails, no_security, retired, summary_of, verdicts_of}
 use Rattle.ugbariteyo.specs.Zero.{no_properties, no_summary}
-use borrow.Author.Rules.{rules}
 use Rattle.ugbariteyo.proofs.zero.no_summary.Goals as goal
 
 none : verdicts_of no_security.fields no_properties

@@ -1,0 +1,13 @@
+// The field that a refusal is about.
+ghost use Rattle.std.specs.Prelude.{◌≡◌};
+ghost use Rattle.fields.specs.Field.{refused_field};
+
+use fields::field::FieldAt;
+use rules::refusal::Refusal;
+
+#[unsafe(no_mangle)]
+pub extern "C" fn ugb_refused_field(s: &[u8], security_first: bool, refusal: Refusal) -> FieldAt
+    ensures { result ≡ refused_field security_first s.now refusal }
+{
+    ugbariteyo::field::ugb_refused_field(s, security_first, refusal)
+}

@@ -62,8 +62,8 @@ over-state x e =
 closed-stays : (x : State) (cs : List Call) → x.progress.finished ≡ true → (after_all x cs).progress.finished ≡ true
 unfolding after_all after
 closed-stays x [] e = e
-closed-stays x (portion t ∷ cs) e = closed-stays _ cs (ap (λ (y : State). y.progress.finished) (refused-state x t e) ∙ e)
-closed-stays x (finish ∷ cs) e = closed-stays _ cs (ap (λ (y : State). y.progress.finished) (finish-stays x e) ∙ e)
+closed-stays x (portion t ∷ cs) e = closed-stays (portion_state x t) cs (ap (λ (y : State). y.progress.finished) (refused-state x t e) ∙ e)
+closed-stays x (finish ∷ cs) e = closed-stays (finish_state x) cs (ap (λ (y : State). y.progress.finished) (finish-stays x e) ∙ e)
 
 finish-closes : (x : State) → (finish_state x).progress.finished ≡ true
 unfolding finish_state finished_progress

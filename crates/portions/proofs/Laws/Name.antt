@@ -17,7 +17,7 @@ use Rattle.portions.specs.declared.name.NameProgress.{NameProgress}
 pub named-append : (m : NameProgress) (s t : List ℕ) → named m (s ++ t) ≡ named (named m s) t
 unfolding named
 named-append m [] t = refl
-named-append m (b ∷ s) t = named-append _ s t
+named-append m (b ∷ s) t = named-append (with_byte m b) s t
 
 -- the high half of a unit that was split
 pub half-even : (m : NameProgress) (b : ℕ) → m.odd ≡ true → (with_byte m b).odd ≡ false

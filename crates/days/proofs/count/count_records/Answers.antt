@@ -1,12 +1,15 @@
 -- The loop's invariant: so many records stand before the offset, and the table has room for them.
-use Prim.Native.Nat.{◌+◌, ◌-◌, ◌<◌, ◌≤◌}
+use Prim.Native.Nat.{ℕ, ◌+◌, ◌-◌, ◌<◌, ◌≤◌}
 use mathlib.Core.Path.{◌≡◌, ◌∙◌}
 use mathlib.Core.Bool.{true, false}
 use mathlib.Core.Logic.{inl, inr}
 use native.Mathlib.Omega.{arith}
-use borrow.Author.Rules.{rules}
-use lib.ListN.{length, drop}
-use Rattle.octets.proofs.Laws.Steps.{the}
+use mathlib.Core.List.{List}
+use lib.ListN.{length, take, drop}
+use Rattle.records.specs.Head.{next_head}
+use Rattle.records.specs.declared.head.Head.{Head}
+use Rattle.records.specs.declared.head.NextHead.{NextHead}
+use Rattle.records.specs.declared.head.NextHead.TheVariants.{Found as NextHead-as-Found}
 use Rattle.records.specs.Record.{next_record, record_of}
 use Rattle.records.specs.declared.record.Next.TheVariants.{Found}
 use Rattle.days.specs.Day.{records_of}
@@ -14,7 +17,6 @@ use Rattle.days.proofs.Laws.Answer.{day-bad, day-many, day-read}
 use Rattle.days.proofs.Laws.Reached.{Reached, at-end, at-stop, head-end, head-found, head-stop, last-count, last-stops, more}
 use Rattle.days.proofs.Laws.Reached.{reached-next, reached-none, size_fits}
 use Rattle.days.proofs.count.count_records.Goals as goal
-use Rattle.days.proofs.count.count_records.Goals.{In-Found-2}
 
 pub returns-in-End : goal.returns-in-End
 returns-in-End c =
@@ -22,7 +24,7 @@ returns-in-End c =
     let l = c.loop-head in
     let x = l.invariant.0 in
     let head = c.next_head.ensures in
-    let ended = at-end x (head-end a.file.now l.at head c.enum_told-1.given.1) in
+    let ended = at-end x (head-end a.file.now l.at head c.in-End.is) in
     day-read (records_of a.file.now) a.slots.0 _ (omega (arith, last-count x false ended)) (omega arith) (omega arith) (last-stops x false ended)
 
 pub returns-in-Stop : goal.returns-in-Stop
@@ -31,52 +33,43 @@ returns-in-Stop c =
     let l = c.loop-head in
     let x = l.invariant.0 in
     let head = c.next_head.ensures in
-    let stop = c.enum_told-in-Stop-1.given.1 in
+    let stop = c.in-Stop.is in
     let ended = at-stop x (head-stop a.file.now l.at head stop) in
     c.refused.ensures
     ∙ day-bad (records_of a.file.now) a.slots.0 _ (omega (arith, last-count x true ended)) (omega arith) (omega arith) (last-stops x true ended)
 
--- behind a head that was found stands a record
-found : (c : In-Found-2
-    → let file = c.args.file.now in
-    let rest = drop c.loop-head.at file in
-    next_record rest ≡ Found (record_of rest c.head-1.given.0.0)
-found c =
-    let a = c.args in
-    let l = c.loop-head in
-    let head = c.next_head.ensures in
-    head-found a.file.now l.at head c.head-1.given.0.0 c.head-1.given.1
+-- behind a head that was found stands a record, which lies in the file, so that there is one more than were counted
+module _ {s : List ℕ} {n at : ℕ} (x : Reached s n at) (head : Head) {told : NextHead}
+    (e : told ≡ next_head (take (length s - at) (drop at s))) (is : told ≡ NextHead-as-Found head) where
+  found : next_record (drop at s) ≡ Found (record_of (drop at s) head)
+  found = head-found s at e head is
 
--- which lies in the file
-inside : (c : In-Found-2
-    → let file = c.args.file.now in
-    c.loop-head.at + (8 + c.head-1.given.0.0.length.0) ≤ length file
-inside c = (size_fits c.loop-head.invariant.0 _ (found c)).1
+  inside : at + (8 + head.length.0) ≤ length s
+  inside = (size_fits x _ found).1
 
--- so that there is one more than were counted
-one_more : (c : In-Found-2
-    → let file = c.args.file.now in
-    c.loop-head.records < length (records_of file).answers
-one_more c = more c.loop-head.invariant.0 _ (found c)
+  one_more : n < length (records_of s).answers
+  one_more = more x _ found
+
+  next : Reached s (n + 1) (at + (8 + head.length.0))
+  next = reached-next x _ found
 
 pub returns-then-records-most : goal.returns-then-records-most
 returns-then-records-most c =
     let a = c.args in
     let full = c.if-records-most.true in
     c.refused-then-records-most.ensures
-    ∙ day-many (records_of a.file.now) a.slots.0 (inl (omega (arith, one_more (goal.at.returns-then-records-most c).In-Found-2, full)))
+    ∙ day-many (records_of a.file.now) a.slots.0 (inl (omega (arith, one_more c.loop-head.invariant.0 c.in-Found.head c.next_head.ensures c.in-Found.is, full)))
 
 pub returns-then-records-eq-MOST : goal.returns-then-records-eq-MOST
 returns-then-records-eq-MOST c =
     let a = c.args in
     let full = c.if-records-eq-MOST.true in
     c.refused-then-records-eq-MOST.ensures
-    ∙ day-many (records_of a.file.now) a.slots.0 (inr (omega (arith, one_more (goal.at.returns-then-records-eq-MOST c).In-Found-2, full)))
+    ∙ day-many (records_of a.file.now) a.slots.0 (inr (omega (arith, one_more c.loop-head.invariant.0 c.in-Found.head c.next_head.ensures c.in-Found.is, full)))
 
 pub loop-head-preserved : goal.loop-head-preserved
 loop-head-preserved c =
-    let l = c.loop-head in
-    (reached-next l.invariant.0 _ (found (goal.at.loop-head-preserved c).In-Found-2), omega arith, omega arith)
+    (next c.loop-head.invariant.0 c.in-Found.head c.next_head.ensures c.in-Found.is, omega arith, omega arith)
 
 pub loop-head-init : goal.loop-head-init
 loop-head-init c =
@@ -88,12 +81,12 @@ slice_bounds-next_head-count c =
 
 pub overflow_add-at : goal.overflow_add-at
 overflow_add-at c =
-    omega (arith, inside (goal.at.overflow_add-at c).In-Found-2)
+    omega (arith, inside c.loop-head.invariant.0 c.in-Found.head c.next_head.ensures c.in-Found.is)
 
 pub overflow_add-at-in-Found : goal.overflow_add-at-in-Found
 overflow_add-at-in-Found c =
-    omega (arith, inside (goal.at.overflow_add-at-in-Found c).In-Found-2)
+    omega (arith, inside c.loop-head.invariant.0 c.in-Found.head c.next_head.ensures c.in-Found.is)
 
 pub loop-head-smaller : goal.loop-head-smaller
 loop-head-smaller c =
-    omega (arith, inside (goal.at.loop-head-smaller c).In-Found-2)
+    omega (arith, inside c.loop-head.invariant.0 c.in-Found.head c.next_head.ensures c.in-Found.is)

@@ -1,6 +1,5 @@
 -- Each value is stored at its place.
 use mathlib.Core.Path.{refl}
-use borrow.Author.Rules.{rules}
 use Rattle.days.specs.Slot.{accepted_slot}
 use Rattle.days.proofs.slot.accepted_slot.Goals as goal
 

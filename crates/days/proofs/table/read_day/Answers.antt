@@ -1,9 +1,7 @@
 -- The counting gives the answer; the table is filled where it says so.
 use mathlib.Core.Path.{◌≡◌, sym, ap, ◌∙◌}
 use mathlib.Core.Bool.{true}
-use borrow.Author.Rules.{rules}
 use lib.ListN.{length}
-use Rattle.octets.proofs.Laws.Steps.{the}
 use Rattle.days.specs.Day.{day_answer, day_table, fills, records_of}
 use Rattle.days.proofs.Laws.Answer.{fills-room}
 use Rattle.days.proofs.table.read_day.Goals as goal
@@ -18,7 +16,9 @@ told c = c.fills_slots.ensures ∙ ap fills c.count_records-answer.ensures
 pub fill-requires : goal.fill-requires
 fill-requires c =
     let a = c.args in
-    fills-room (records_of a.file.now) (length a.table.now) (sym (told (goal.at.fill-requires c).After-fills_slots) ∙ c.if-fills_slots.true)
+    let room =
+    fills-room (records_of a.file.now) (length a.table.now) (sym (told (goal.at.fill-requires c).After-fills_slots) ∙ c.if-fills_slots.true) in
+    record { file_in_bounds = room.0; file_len_bound = room.1 }
 
 pub returns-then-fills_slots : goal.returns-then-fills_slots
 unfolding day_table
@@ -28,6 +28,6 @@ returns-then-fills_slots c =
 pub returns-else-fills_slots : goal.returns-else-fills_slots
 unfolding day_table
 returns-else-fills_slots c = record {
-      value = c.count_records-answer.ensures;
-      table_after = rw (sym (told (goal.at.returns-else-fills_slots c).After-fills_slots) ∙ c.if-fills_slots.false);
-    }
+  value = c.count_records-answer.ensures;
+  table_after = rw (sym (told (goal.at.returns-else-fills_slots c).After-fills_slots) ∙ c.if-fills_slots.false);
+}

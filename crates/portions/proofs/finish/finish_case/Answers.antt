@@ -1,8 +1,7 @@
 -- Refused after the finish; or the refusal or the summary of what is held, by the header that stands first.
+use Prim.Native.Nat.{ℕ}
 use mathlib.Core.Bool.{Bool, true, false}
 use mathlib.Core.Path.{◌≡◌, sym, ap, ◌∙◌}
-use borrow.Author.Rules.{rules}
-use Rattle.octets.proofs.Laws.Steps.{the}
 use Rattle.rules.specs.declared.refusal.Refusal.{Refusal}
 use Rattle.rules.specs.declared.section.Summarized.TheVariants.{Accepted, Refused}
 use Rattle.rules.specs.declared.security.SecurityFields.{SecurityFields}
@@ -16,7 +15,7 @@ use Rattle.portions.specs.declared.state.State.{State}
 use Rattle.portions.proofs.Laws.Call.{answered, refused-again}
 use Rattle.portions.proofs.Laws.Judge.{held-accepted, held_number, held-refused}
 use Rattle.portions.proofs.finish.finish_case.Goals as goal
-use Rattle.portions.proofs.finish.finish_case.Goals.{After-held_judge-judged, Else-judged-ne-PASSED}
+use Rattle.portions.proofs.finish.finish_case.Goals.{After-held_judge-judged}
 
 pub returns-then-progress : goal.returns-then-progress
 unfolding finish_case
@@ -60,25 +59,30 @@ placed-requires c = judged (goal.at.placed-requires c).After-held_judge-judged
 pub returns-then-judged-ne-PASSED : goal.returns-then-judged-ne-PASSED
 unfolding state finish_case
 returns-then-judged-ne-PASSED c =
-    let x = state (goal.at.returns-then-judged-ne-PASSED c).After-held_judge-judged in
-    let some : ¬ ((held_judge x.progress x.head x.properties).number ≡ 0) = λ z. c.if-judged-ne-PASSED.true (number (goal.at.returns-then-judged-ne-PASSED c).After-held_judge-judged ∙ z) in
-    ap (finish_case x.progress.security_first) (held-refused x _ c.placed.ensures some ∙ sym (answered x (going (goal.at.returns-then-judged-ne-PASSED c).After-held_judge-judged)))
+    let l = (goal.at.returns-then-judged-ne-PASSED c).After-held_judge-judged in
+    let x = state l in
+    let some : ¬ ((held_judge x.progress x.head x.properties).number ≡ 0) = λ z. c.if-judged-ne-PASSED.true (number l ∙ z) in
+    ap (finish_case x.progress.security_first) (held-refused x _ c.placed.ensures some ∙ sym (answered x (going l)))
 
 -- the answer of what passed every step, where it is known which header stands first
-accepted : (c : Else-judged-ne-PASSED) (first : Bool)
-    → let x = state (search) in
-    x.progress.security_first ≡ first
+accepted : (x : State) (n : ℕ) (first : Bool) → x.progress.finished ≡ false
+    → n ≡ (held_judge x.progress x.head x.properties).number → n ≡ 0 → x.progress.security_first ≡ first
     → finish_case x.progress.security_first (finish_answer x)
     ≡ finish_case first (Accepted (held_summary first x.head x.provider_type x.properties))
-accepted c first e =
-    let x = state c.After-held_judge-judged in
-    ap (finish_case x.progress.security_first) (answered x (going c.After-held_judge-judged) ∙ held-accepted x (sym (number c.After-held_judge-judged) ∙ c.if-judged-ne-PASSED.false))
+accepted x n first going told none e =
+    ap (finish_case x.progress.security_first) (answered x going ∙ held-accepted x (sym told ∙ none))
     ∙ ap (λ (b : Bool). finish_case b (Accepted (held_summary b x.head x.provider_type x.properties))) e
 
 pub returns-then-progress-2 : goal.returns-then-progress-2
 unfolding state finish_case
-returns-then-progress-2 c = ap WithSecurity c.held_with_security.ensures ∙ sym (accepted (goal.at.returns-then-progress-2 c).Else-judged-ne-PASSED true c.if-progress-2.true)
+returns-then-progress-2 c =
+    let l = (goal.at.returns-then-progress-2 c).After-held_judge-judged in
+    ap WithSecurity c.held_with_security.ensures
+    ∙ sym (accepted (state l) _ true (going l) (number l) c.if-judged-ne-PASSED.false c.if-progress-2.true)
 
 pub returns : goal.returns
 unfolding state finish_case held_summary held_header
-returns c = ap WithoutSecurity c.held_without_security.ensures ∙ sym (accepted (goal.at.returns c).Else-judged-ne-PASSED false c.if-progress-2.false)
+returns c =
+    let l = (goal.at.returns c).After-held_judge-judged in
+    ap WithoutSecurity c.held_without_security.ensures
+    ∙ sym (accepted (state l) _ false (going l) (number l) c.if-judged-ne-PASSED.false c.if-progress-2.false)

@@ -1,7 +1,5 @@
 -- The bytes behind the fixed ones, two to a unit.
 use mathlib.Core.Path.{ap, ◌∙◌}
-use borrow.Author.Rules.{rules}
-use Rattle.octets.proofs.Laws.Steps.{the}
 use Rattle.octets.specs.Part.{within}
 use Rattle.portions.proofs.finish.label_held.Goals as goal
 

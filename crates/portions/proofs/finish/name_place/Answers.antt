@@ -2,8 +2,6 @@
 use Prim.Native.Nat.{min}
 use mathlib.Core.Path.{ap₂, ◌∙◌}
 use native.Mathlib.Omega.{arith}
-use borrow.Author.Rules.{rules}
-use Rattle.octets.proofs.Laws.Steps.{the}
 use Rattle.rules.specs.Place.{name_place}
 use Rattle.portions.specs.Name.{name_break_of}
 use Rattle.portions.proofs.finish.name_place.Goals as goal

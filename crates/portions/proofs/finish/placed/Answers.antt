@@ -1,9 +1,7 @@
 -- The header whose step has failed, and the place in it.
 use Prim.Native.Nat.{◌+◌, min}
 use mathlib.Core.Path.{ap, ◌∙◌}
-use borrow.Author.Rules.{rules}
 use Rattle.octets.specs.Part.{within}
-use Rattle.octets.proofs.Laws.Steps.{the}
 use Rattle.rules.specs.Place.{properties_refusal, refusal_at, security_place}
 use Rattle.rules.specs.Properties.{label_bytes}
 use Rattle.rules.specs.Refusal.{limit, refusal}

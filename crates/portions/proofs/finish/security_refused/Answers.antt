@@ -1,9 +1,7 @@
 -- A 7 by its cause, as C-17 tells it; any other number without the name.
 use Prim.Native.Nat.{ℕ}
 use mathlib.Core.Path.{◌≡◌, sym, ap, ◌∙◌}
-use borrow.Author.Rules.{rules}
 use borrow.Author.Tests.{ne_eqb}
-use Rattle.octets.proofs.Laws.Steps.{the}
 use Rattle.rules.specs.Place.{refusal_at, security_place}
 use Rattle.rules.specs.Refusal.{refusal}
 use Rattle.rules.specs.declared.security.SecurityFields.{SecurityFields}

@@ -1,8 +1,6 @@
 -- By whether a unit was split.
 use mathlib.Core.Path.{refl}
-use borrow.Author.Rules.{rules}
 use Rattle.octets.proofs.Laws.Part.{rest-drop}
-use Rattle.octets.proofs.Laws.Steps.{the}
 use Rattle.portions.proofs.name.behind_half.Goals as goal
 
 pub returns-then-odd : goal.returns-then-odd

@@ -2,8 +2,7 @@
 use Prim.Native.Nat.{◌+◌, ◌*◌}
 use mathlib.Core.Path.{◌≡◌, ap, ◌∙◌}
 use native.Mathlib.Omega.{arith}
-use borrow.Author.Rules.{rules}
-use Rattle.octets.proofs.Laws.Steps.{steps, the}
+use Rattle.octets.proofs.Laws.Steps.{steps}
 use Rattle.octets.specs.Number.{le}
 use Rattle.portions.specs.Name.{with_byte, with_unit}
 use Rattle.portions.proofs.name.with_byte.Goals as goal

@@ -6,7 +6,6 @@ use mathlib.Core.Path.{◌≡◌, refl, sym, ap, ap₂, ◌∙◌}
 use native.Mathlib.Omega.{arith}
 use lib.ListN.{length, get_or, drop, drop_of_length-le}
 use lib.Seq.{drop-cons}
-use Rattle.octets.proofs.Laws.Steps.{the}
 use Rattle.portions.specs.Name.{named, with_byte}
 use Rattle.portions.specs.declared.name.NameProgress.{NameProgress}
 use Rattle.portions.proofs.Laws.Name.{half-even}

@@ -1,7 +1,6 @@
 -- By whether a unit was split.
 use mathlib.Core.Path.{refl, sym}
-use borrow.Author.Rules.{rules}
-use Rattle.octets.proofs.Laws.Steps.{answers, passed, the}
+use Rattle.octets.proofs.Laws.Steps.{answers, passed}
 use Rattle.portions.proofs.name.with_half.Goals as goal
 
 pub returns-then-name : goal.returns-then-name

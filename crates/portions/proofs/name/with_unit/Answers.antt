@@ -2,10 +2,8 @@
 use mathlib.Core.Bool.{◌||◌}
 use native.Mathlib.Numerals.{add-one}
 use native.Mathlib.Omega.{arith}
-use borrow.Author.Rules.{rules}
 use borrow.Author.Tests.{leb-false}
 use lib.Dec.{eqb, leb}
-use Rattle.octets.proofs.Laws.Steps.{the}
 use Rattle.rules.specs.Refusal.{limit}
 use Rattle.rules.proofs.Laws.Accepted.{neither}
 use Rattle.portions.specs.Name.{with_unit}

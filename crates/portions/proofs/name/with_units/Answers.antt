@@ -3,10 +3,8 @@ use Prim.Native.Nat.{ℕ, suc, ◌*◌, ◌/◌, ◌<◌}
 use mathlib.Core.Path.{◌≡◌, sym, ap, ◌∙◌}
 use mathlib.Core.List.{List, [], ◌∷◌}
 use native.Mathlib.Omega.{arith}
-use borrow.Author.Rules.{rules}
 use lib.ListN.{length, get_or, take, drop, drop_of_length-le, take-append-drop}
 use lib.Seq.{drop-cons}
-use Rattle.octets.proofs.Laws.Steps.{the}
 use Rattle.portions.specs.Name.{named, with_byte}
 use Rattle.portions.specs.declared.name.NameProgress.{NameProgress}
 use Rattle.portions.proofs.Laws.Name.{named-append}

@@ -2,10 +2,8 @@
 use Prim.Native.Nat.{ℕ, ◌+◌, ◌*◌, ◌-◌, ◌/◌, min}
 use mathlib.Core.Path.{◌≡◌, sym, ap, ap₂, ◌∙◌}
 use native.Mathlib.Omega.{arith}
-use borrow.Author.Rules.{rules}
 use lib.ListN.{length, take}
 use Rattle.octets.specs.Text.{first_zero, units}
-use Rattle.octets.proofs.Laws.Steps.{the}
 use Rattle.octets.proofs.Laws.Text.{length-units}
 use Rattle.rules.specs.Refusal.{limit}
 use Rattle.portions.specs.Name.{named}

@@ -3,7 +3,6 @@ use mathlib.Core.Path.{refl}
 use Rattle.octets.specs.Number.{le}
 use Rattle.octets.specs.Padding.{padded, padding}
 use Rattle.octets.specs.Part.{whole}
-use Rattle.octets.proofs.Laws.Steps.{the}
 use Rattle.rules.specs.Security.{cert_at, key_at, provider_at, security_fields, security_length, signature_at}
 use Rattle.reading.specs.Fields.{security_read}
 use Rattle.portions.specs.State.{places_in, places_of}

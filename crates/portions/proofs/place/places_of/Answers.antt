@@ -1,8 +1,6 @@
 -- Each place is clamped as its function promises.
 use Prim.Native.Nat.{◌+◌, ◌-◌, min}
 use mathlib.Core.Path.{ap, ap₂, ◌∙◌}
-use borrow.Author.Rules.{rules}
-use Rattle.octets.proofs.Laws.Steps.{the}
 use Rattle.rules.specs.Refusal.{bytes, limit}
 use Rattle.rules.specs.Security.{provider_at, security_length}
 use Rattle.rules.specs.declared.security.SecurityFields.{SecurityFields}
@@ -15,7 +13,7 @@ returns-then-security_first c =
     let f = c.security_fields-f.ensures.value in
     let name = c.provider_at.ensures ∙ ap (λ (g : SecurityFields). min (limit + 1) (provider_at g)) f in
     let end = c.security_length-properties_at.ensures ∙ ap (λ (g : SecurityFields). min (limit + 1) (security_length g)) f in
-    let info = c.less-room.ensures ∙ ap (λ (g : SecurityFields). g.provider_info_size.0 - 4) f in
+    let info = c.less.ensures ∙ ap (λ (g : SecurityFields). g.provider_info_size.0 - 4) f in
     let room = c.less-room.ensures ∙ (λ i. end i - (name i + 4)) in
     let size = c.smaller.ensures ∙ ap₂ min info room in
     rw c.if-security_first.true

@@ -1,10 +1,9 @@
 -- The head is not there, or what comes is held against the provider info's start.
 use Prim.Native.Nat.{ℕ, ◌-◌}
 use mathlib.Core.Path.{sym, ap, ◌∙◌}
-use borrow.Author.Rules.{rules}
 use borrow.Author.Tests.{le-leb, lt-leb}
 use lib.Dec.{leb}
-use Rattle.octets.proofs.Laws.Steps.{and-fails, and-next, the}
+use Rattle.octets.proofs.Laws.Steps.{and-fails, and-next}
 use Rattle.portions.specs.Fed.{before_provider}
 use Rattle.portions.proofs.portion.before_provider.Goals as goal
 

@@ -1,6 +1,4 @@
 -- One number changes.
-use borrow.Author.Rules.{rules}
-use Rattle.octets.proofs.Laws.Steps.{the}
 use Rattle.rules.specs.Refusal.{bytes}
 use Rattle.portions.specs.Fed.{counted}
 use Rattle.portions.proofs.portion.counted.Goals as goal

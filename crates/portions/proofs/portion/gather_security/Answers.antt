@@ -1,9 +1,7 @@
 -- Each window and the name go on by the portion, where the head then says.
-use Prim.Native.Nat.{ℕ, ◌-◌}
+use Prim.Native.Nat.{ℕ}
 use mathlib.Core.Path.{ap, ◌∙◌}
 use mathlib.Core.Bool.{false}
-use borrow.Author.Rules.{rules}
-use Rattle.octets.proofs.Laws.Steps.{the}
 use Rattle.rules.specs.Refusal.{bytes}
 use Rattle.portions.specs.Fed.{name_then, progress_then}
 use Rattle.portions.specs.Name.{named}
@@ -22,13 +20,14 @@ returns c =
     let name = c.with_bytes-name.ensures
     ∙ ap (named p.name) (c.name_then.ensures ∙ ap (λ (q : Places). name_then q k t) places) in
     let type = c.show-2.ensures
-    ∙ ap (λ (n : ℕ). shown a.provider_type.now n k t) c.less-type_at.ensures in (
-      λ i. record {
+    ∙ ap (λ (n : ℕ). shown a.provider_type.now n k t) c.less-type_at.ensures in record {
+      value = λ i. record {
         security_first = p.security_first;
         finished = false;
         received = bytes (c.received_then.ensures i);
         places = places i;
         name = name i;
-      },
-      (c.show.ensures, type),
-    )
+      };
+      head_after = c.show.ensures;
+      provider_type_after = type;
+    }

@@ -1,9 +1,7 @@
 -- The part of the portion that is left of the name.
 use Prim.Native.Nat.{ℕ, ◌-◌}
 use mathlib.Core.Path.{ap, ap₂, ◌∙◌}
-use borrow.Author.Rules.{rules}
 use lib.ListN.{take, drop}
-use Rattle.octets.proofs.Laws.Steps.{the}
 use Rattle.portions.proofs.portion.name_then.Goals as goal
 
 pub returns : goal.returns
@@ -11,5 +9,5 @@ returns c =
     let a = c.args in
     let came = c.less-came.ensures in
     let from = c.less-from.ensures in
-    let left = c.less-came.ensures ∙ ap (◌-◌ a.places.name_size.0) came in
+    let left = c.less.ensures ∙ ap (◌-◌ a.places.name_size.0) came in
     c.passed.ensures ∙ ap₂ (λ (n k : ℕ). take n (drop k a.bytes.now)) left from

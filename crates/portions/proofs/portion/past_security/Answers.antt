@@ -1,8 +1,6 @@
 -- By what came of the next header, or none stands first.
 use mathlib.Core.Path.{ap}
-use borrow.Author.Rules.{rules}
 use lib.Dec.{leb}
-use Rattle.octets.proofs.Laws.Steps.{the}
 use Rattle.portions.specs.Fed.{past_security}
 use Rattle.portions.proofs.portion.past_security.Goals as goal
 

@@ -1,13 +1,7 @@
 -- Before the 16 bytes have come, and behind them.
-use borrow.Author.Rules.{rules}
 use Rattle.octets.proofs.Laws.Steps.{steps}
 use Rattle.portions.specs.Fed.{places_after}
 use Rattle.portions.proofs.portion.places_after.Goals as goal
-
-pub places_of-requires : goal.places_of-requires
-unfolding places_after
-places_of-requires c =
-    search rules
 
 pub returns-then-progress-lt16 : goal.returns-then-progress-lt16
 unfolding places_after

@@ -2,9 +2,7 @@
 use Prim.Native.Nat.{ℕ, ◌+◌, ◌*◌, ◌-◌}
 use mathlib.Core.Path.{◌≡◌, ap, ◌∙◌}
 use native.Mathlib.Omega.{arith}
-use borrow.Author.Rules.{rules}
 use lib.ListN.{get_or, take}
-use Rattle.octets.proofs.Laws.Steps.{the}
 use Rattle.portions.specs.Fed.{properties_then}
 use Rattle.portions.specs.Window.{shown}
 use Rattle.portions.proofs.properties.hold_properties.Goals as goal

@@ -2,9 +2,7 @@
 use Prim.Native.Nat.{ℕ, ◌+◌, ◌-◌}
 use mathlib.Core.Path.{◌≡◌, sym, ap, ◌∙◌}
 use native.Mathlib.Omega.{arith}
-use borrow.Author.Rules.{rules}
 use lib.ListN.{get_or}
-use Rattle.octets.proofs.Laws.Steps.{the}
 use Rattle.portions.proofs.Laws.Window.{shown-new, shown-not-yet, shown-old}
 use Rattle.portions.proofs.properties.label_length_then.Goals as goal
 

@@ -1,9 +1,7 @@
 -- The label's end against what came of the header.
 use Prim.Native.Nat.{◌+◌}
 use mathlib.Core.Path.{ap₂, ap}
-use borrow.Author.Rules.{rules}
 use lib.Dec.{leb}
-use Rattle.octets.proofs.Laws.Steps.{the}
 use Rattle.portions.specs.Fed.{past_label}
 use Rattle.portions.proofs.properties.past_label.Goals as goal
 

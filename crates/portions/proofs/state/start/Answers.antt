@@ -1,5 +1,4 @@
 -- Every window is zero, and the name has no byte.
-use borrow.Author.Rules.{rules}
 use Rattle.portions.specs.Name.{no_name}
 use Rattle.portions.proofs.Laws.State.{started}
 use Rattle.portions.proofs.state.start.Goals as goal

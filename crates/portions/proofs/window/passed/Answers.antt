@@ -2,11 +2,9 @@
 use Prim.Native.Nat.{ℕ, ◌+◌, ◌-◌}
 use mathlib.Core.Path.{◌≡◌, sym, ap, ◌∙◌}
 use native.Mathlib.Omega.{arith}
-use borrow.Author.Rules.{rules}
 use lib.ListN.{take, drop, drop_of_length-le, length-drop}
 use lib.Seq.{take-nil, take_all}
 use Rattle.octets.proofs.Laws.Part.{rest-drop}
-use Rattle.octets.proofs.Laws.Steps.{the}
 use Rattle.portions.proofs.window.passed.Goals as goal
 
 pub returns-then-portion-start : goal.returns-then-portion-start

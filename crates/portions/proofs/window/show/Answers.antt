@@ -3,11 +3,9 @@ use Prim.Native.Nat.{◌-◌}
 use mathlib.Core.Path.{◌≡◌, sym, ◌∙◌}
 use mathlib.Core.List.{[]}
 use native.Mathlib.Omega.{arith}
-use borrow.Author.Rules.{rules}
 use borrow.Author.Tests.{lt-ltb, le-ltb}
 use lib.ListN.{drop, drop_of_length-le}
 use Rattle.octets.proofs.Laws.Part.{rest-drop}
-use Rattle.octets.proofs.Laws.Steps.{the}
 use Rattle.portions.specs.Window.{shown}
 use Rattle.portions.proofs.Laws.Window.{copied_none, shown-whole, shown-lent}
 use Rattle.portions.proofs.window.show.Goals as goal
@@ -39,4 +37,4 @@ returns c =
     let a = c.args in
     let copied = c.copy-2 in
     rw (le-ltb a.received.0 a.at.0 (omega arith))
-    (shown-lent (a.received.0 - a.at.0) a.portion.now a.window.now copied.new.1.0 (omega arith) copied.ensures)
+    (shown-lent (a.received.0 - a.at.0) a.portion.now a.window.now copied.new.out (omega arith) copied.ensures)

@@ -2,10 +2,8 @@
 use Prim.Native.Nat.{ℕ, ◌+◌, ◌-◌}
 use mathlib.Core.Path.{◌≡◌, sym, ap, ◌∙◌}
 use native.Mathlib.Omega.{arith}
-use borrow.Author.Rules.{rules}
 use lib.ListN.{take}
 use lib.Seq.{take_all}
-use Rattle.octets.proofs.Laws.Steps.{the}
 use Rattle.portions.proofs.window.up_to.Goals as goal
 
 pub returns-then-portion-skip : goal.returns-then-portion-skip

@@ -1,6 +1,5 @@
 -- The loop's invariant: the digits counted and those of `rest` are one more than the number's.
 -- The measure is `rest`.
-use Prim.Native.Nat.{◌+◌}
 use mathlib.Core.Path.{◌≡◌, ap}
 use native.Mathlib.Omega.{arith}
 use lib.ListN.{length}

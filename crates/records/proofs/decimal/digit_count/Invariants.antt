@@ -1,11 +1,9 @@
 -- The loop's invariant: the digits counted and those of `rest` are one more than the number's.
 -- The measure is `rest`.
 use Prim.Native.Nat.{◌+◌}
-use mathlib.Core.Path.{◌≡◌, ap}
-use native.Mathlib.Omega.{arith}
+use mathlib.Core.Path.{◌≡◌}
 use lib.ListN.{length}
 use Rattle.records.specs.Decimal.{decimal}
-use Rattle.records.proofs.Laws.Decimal.{decimal-one, decimal-some, length-decimal, length_more}
 use Rattle.records.proofs.decimal.digit_count.Given as goal
 
 abbrev pub invariant-loop-rest : goal.invariant-loop-rest

@@ -4,7 +4,7 @@ use Prim.Native.Nat.{◌+◌}
 use mathlib.Core.Path.{◌∙◌}
 use native.Mathlib.Omega.{arith}
 use lib.ListN.{length-set}
-use Rattle.records.proofs.Laws.Decimal.{Putting, decimal-some, putting-first, putting-last, putting-next}
+use Rattle.records.proofs.Laws.Decimal.{decimal-some, putting-first, putting-last, putting-next}
 use Rattle.records.proofs.decimal.put_digits.Goals as goal
 
 pub loop-rest-init : goal.loop-rest-init

@@ -1,10 +1,6 @@
 -- The loop's invariant: the digits behind the first `left` are put, and those are the digits of `rest`.
 -- The measure is `rest`.
-use Prim.Native.Nat.{◌+◌}
-use mathlib.Core.Path.{◌∙◌}
-use native.Mathlib.Omega.{arith}
-use lib.ListN.{length-set}
-use Rattle.records.proofs.Laws.Decimal.{Putting, decimal-some, putting-first, putting-last, putting-next}
+use Rattle.records.proofs.Laws.Decimal.{Putting}
 use Rattle.records.proofs.decimal.put_digits.Given as goal
 
 abbrev pub invariant-loop-rest : goal.invariant-loop-rest

@@ -10,10 +10,10 @@ pub returns-then-is_over : goal.returns-then-is_over
 unfolding is_enough
 returns-then-is_over c =
     let a = c.args in
-    let e : true ≡ is_enough a.held.0 a.«is-over» = rw c.if-is_over.true in record { value = e; decides = λ _. enough a.held.0 a.«is-over» (sym e) }
+    let e : true ≡ is_enough a.held.0 a.is_over = rw c.if-is_over.true in record { value = e; decides = λ _. enough a.held.0 a.is_over (sym e) }
 
 pub returns : goal.returns
 unfolding is_enough
 returns c =
     let a = c.args in
-    let e : leb 32776 a.held.0 ≡ is_enough a.held.0 a.«is-over» = rw c.if-is_over.false in record { value = e; decides = λ h. enough a.held.0 a.«is-over» (sym e ∙ h) }
+    let e : leb 32776 a.held.0 ≡ is_enough a.held.0 a.is_over = rw c.if-is_over.false in record { value = e; decides = λ h. enough a.held.0 a.is_over (sym e ∙ h) }

@@ -3,10 +3,8 @@ use Prim.Native.Nat.{ℕ}
 use mathlib.Core.Bool.{cond}
 use mathlib.Core.List.{List, ◌∷◌}
 use mathlib.Core.Path.{ap}
-use borrow.Author.Rules.{rules}
 use Rattle.octets.specs.Number.{to_le}
 use Rattle.octets.proofs.Laws.Number.{to_le-mod}
-use Rattle.octets.proofs.Laws.Steps.{the}
 use Rattle.records.specs.Head.{head_bytes}
 use Rattle.records.proofs.head.head_bytes.Goals as goal
 

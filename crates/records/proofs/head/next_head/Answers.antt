@@ -4,30 +4,24 @@ use mathlib.Core.List.{List}
 use mathlib.Core.Path.{◌≡◌, ap, ◌∙◌}
 use lib.Dec.{eqb}
 use lib.ListN.{get_or}
-use borrow.Author.Rules.{rules}
-use Rattle.octets.proofs.Laws.Steps.{steps, the, told}
+use Rattle.octets.proofs.Laws.Steps.{steps, told}
 use Rattle.rules.specs.Refusal.{bytes}
 use Rattle.records.specs.Head.{next_head, section_size}
 use Rattle.records.specs.declared.head.NextHead.{NextHead}
 use Rattle.records.specs.declared.head.NextHead.TheVariants.{Found}
 use Rattle.records.proofs.head.next_head.Goals as goal
-use Rattle.records.proofs.head.next_head.Goals.{Else-s-length}
-
-file : Else-s-length → List ℕ
-file c = c.args.s.now
 
 -- a head whose section has n bytes
 abbrev head_of : List ℕ → ℕ → NextHead
 head_of s n = Found (record { security_first = eqb (get_or s 2 0) 1; length = bytes n })
 
 -- past all tests, the head is the definition's
-found : (c : Else-s-length) → head_of (file c) (section_size (file c)) ≡ next_head (file c)
-unfolding file next_head section_size
-found c = search (steps, told) depth 20
-
 pub returns : goal.returns
-unfolding file section_size
-returns c = ap (head_of (file (search))) c.u32_at-length.ensures ∙ found (goal.at.returns c).Else-s-length
+unfolding next_head section_size
+returns c =
+    let s = c.args.s.now in
+    let found : head_of s (section_size s) ≡ next_head s = search (steps, told) depth 20 in
+    ap (head_of s) c.u32_at-length.ensures ∙ found
 
 pub returns-then-s-eq0 : goal.returns-then-s-eq0
 unfolding next_head section_size
@@ -58,11 +52,6 @@ pub returns-then-s-ne0 : goal.returns-then-s-ne0
 unfolding next_head section_size
 returns-then-s-ne0 c =
     search (steps, told) depth 20
-
-pub u32_at-length-requires : goal.u32_at-length-requires
-unfolding next_head section_size
-u32_at-length-requires c =
-    search rules
 
 pub returns-then-length-gt-LONGEST : goal.returns-then-length-gt-LONGEST
 unfolding next_head section_size

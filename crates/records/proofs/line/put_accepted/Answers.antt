@@ -5,8 +5,6 @@ use Rattle.records.specs.Decimal.{decimal}
 use Rattle.records.specs.Line.{line, line_bytes, sizes, sizes_bytes}
 use Rattle.records.specs.declared.record.Answer.TheVariants.{Accepted}
 use Rattle.records.proofs.Laws.Piece.{put_as, put_first, put_next}
-use borrow.Author.Rules.{rules}
-use Rattle.octets.proofs.Laws.Steps.{the}
 use Rattle.records.proofs.line.put_accepted.Goals as goal
 
 pub returns : goal.returns
@@ -22,9 +20,9 @@ returns c =
     let lead = decimal a.number ++ (32 ∷ 111 ∷ 107 ∷ 32 ∷ []) in
     let class = decimal v.message_class ++ (32 ∷ []) in
     let label = decimal v.label_length.0 ++ (32 ∷ []) in
-    let w1 = put_first a.at.0 lead first.result_value first.result_bound.1 in
-    let w2 = put_next class w1 (omega arith) second.result_value second.result_bound.1 in
-    let w3 = put_next label w2 (omega arith) third.result_value third.result_bound.1 in
-    let w4 = put_next (sizes_bytes v) w3 (omega arith) last.result_value last.result_bound.1 in
+    let w1 = put_first a.at.0 lead first.result_value first.text_after in
+    let w2 = put_next class w1 (omega arith) second.result_value second.text_after in
+    let w3 = put_next label w2 (omega arith) third.result_value third.text_after in
+    let w4 = put_next (sizes_bytes v) w3 (omega arith) last.result_value last.text_after in
     let w = put_as (line_bytes a.number (Accepted v)) w4 (simp append_assoc) in
-    (w.ends, (omega (arith, first.result_bound.0, second.result_bound.0, third.result_bound.0, last.result_bound.0), w.bytes))
+    record { result_value = w.ends; result_bound = omega (arith, first.result_bound, second.result_bound, third.result_bound, last.result_bound); text_after = w.bytes }

@@ -3,8 +3,6 @@ use mathlib.Core.List.{[], ◌∷◌, ◌++◌, append_assoc}
 use native.Mathlib.Omega.{arith}
 use Rattle.records.specs.Decimal.{decimal}
 use Rattle.records.proofs.Laws.Piece.{put_as, put_first, put_next}
-use borrow.Author.Rules.{rules}
-use Rattle.octets.proofs.Laws.Steps.{the}
 use Rattle.records.proofs.line.put_lead.Goals as goal
 
 pub returns : goal.returns
@@ -13,7 +11,7 @@ returns c =
     let first = c.put_number-word.ensures in
     let second = c.put_word.ensures in
     let answer = a.answer.now in
-    let w1 = put_first a.at.0 (decimal a.number ++ (32 ∷ [])) first.result_value first.result_bound.1 in
+    let w1 = put_first a.at.0 (decimal a.number ++ (32 ∷ [])) first.result_value first.text_after in
     let w2 = put_next answer w1 (omega arith) second.result_value second.text_after in
     let w = put_as (decimal a.number ++ (32 ∷ answer)) w2 (append_assoc (decimal a.number) (32 ∷ []) answer) in
-    (w.ends, (omega (arith, first.result_bound.0, second.result_value), w.bytes))
+    record { result_value = w.ends; result_bound = omega (arith, first.result_bound, second.result_value); text_after = w.bytes }

@@ -6,8 +6,6 @@ use native.Mathlib.Omega.{arith}
 use lib.ListN.{length, length-append}
 use Rattle.octets.proofs.Laws.Over.{over-more}
 use Rattle.records.specs.Decimal.{decimal}
-use borrow.Author.Rules.{rules}
-use Rattle.octets.proofs.Laws.Steps.{the}
 use Rattle.records.proofs.piece.put_number.Goals as goal
 
 pub returns : goal.returns
@@ -18,10 +16,8 @@ returns c =
     let end = a.at.0 + counted.result.0 in
     let size = length-append digits (a.after ∷ []) in
     let put = c.put_digits.ensures in
-    let behind : end ≡ a.at.0 + length digits = omega (arith, counted.ensures.result_value) in (
-      omega (arith, size, counted.ensures.result_value),
-      (
-        omega (arith, counted.ensures.result_bound),
-        over-more a.at.0 digits a.text.now end a.after put behind (omega arith) (omega arith),
-      ),
-    )
+    let behind : end ≡ a.at.0 + length digits = omega (arith, counted.ensures.result_value) in record {
+      result_value = omega (arith, size, counted.ensures.result_value);
+      result_bound = omega (arith, counted.ensures.result_bound);
+      text_after = over-more a.at.0 digits a.text.now end a.after put behind (omega arith) (omega arith);
+    }

@@ -104,7 +104,3 @@ slice_bounds-write_properties-count c =
 pub slice_bounds-write_properties-start : goal.slice_bounds-write_properties-start
 slice_bounds-write_properties-start c =
     omega (arith, as_long (goal.at.slice_bounds-write_properties-start c).Joined-first, c.requires.room)
-
-pub shape_of-out : goal.shape_of-out
-shape_of-out c =
-    c.out-2-1.given.1 ∙ as_long (goal.at.shape_of-out c).Joined-first

@@ -10,6 +10,18 @@ use Rattle.requests.specs.declared.request.Number.TheVariants.{Absent}
 use Rattle.requests.specs.declared.request.Request.{Request}
 
 -- a MessagePropertiesHeader with these fields, all others 0, and what follows its fixed bytes
+unfoldable pub properties : (label_length class size extension : ℕ) → List ℕ → List ℕ
+properties label_length class size extension rest =
+    to_le 1 0
+    ++ (to_le 1 label_length
+    ++ (to_le 2 class
+    ++ (replicate 28 0
+    ++ (to_le 4 size
+    ++ (to_le 4 size
+    ++ (replicate 12 0
+    ++ (to_le 4 extension ++ rest)))))))
+
+-- the same with a BodyType
 abbrev pub typed_properties : (label_length class type size extension : ℕ) → List ℕ → List ℕ
 typed_properties label_length class type size extension rest =
     to_le 1 0
@@ -22,10 +34,6 @@ typed_properties label_length class type size extension rest =
     ++ (to_le 4 size
     ++ (replicate 12 0
     ++ (to_le 4 extension ++ rest)))))))))
-
--- with BodyType 0
-unfoldable pub properties : (label_length class size extension : ℕ) → List ℕ → List ℕ
-properties label_length class size extension rest = typed_properties label_length class 0 size extension rest
 
 -- the fixed bytes of a SecurityHeader, and what follows them
 unfoldable pub security : (flags identity key signature certificate provider : ℕ) → List ℕ → List ℕ

@@ -1,8 +1,6 @@
 -- The answer is handed on.
 use mathlib.Core.Path.{ap, ◌∙◌}
 use Rattle.day_reader.specs.Answer.{answered}
-use borrow.Author.Rules.{rules}
-use Rattle.octets.proofs.Laws.Steps.{the}
 use Rattle.day_reader.proofs.ugb_read_day.Goals as goal
 
 pub returns : goal.returns

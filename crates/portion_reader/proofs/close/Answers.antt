@@ -2,9 +2,7 @@
 use mathlib.Core.Path.{◌≡◌, refl}
 use native.Mathlib.Omega.{arith}
 use lib.ListN.{get_or}
-use borrow.Author.Rules.{rules}
 use borrow.Author.Tests.{eq-eqb, ne_eqb}
-use Rattle.octets.proofs.Laws.Steps.{the}
 use Rattle.portion_reader.specs.Answer.{finish_counters}
 use Rattle.portion_reader.proofs.close.Goals as goal
 

@@ -1,7 +1,5 @@
 -- The case picks the answer; the counters are closed.
 use mathlib.Core.Path.{◌≡◌, sym, ap, ◌∙◌}
-use borrow.Author.Rules.{rules}
-use Rattle.octets.proofs.Laws.Steps.{the}
 use Rattle.portions.specs.Finish.{finish_answer}
 use Rattle.portions.specs.State.{state_with}
 use Rattle.portions.specs.declared.state.Progress.{Progress}
@@ -26,26 +24,26 @@ answer c =
 pub returns-in-WithSecurity : goal.returns-in-WithSecurity
 unfolding summarized_answer
 returns-in-WithSecurity c =
-    let m = c.summary-1 in
-    let told = ap answer_of (sym m.given.1) ∙ answer (goal.at.returns-in-WithSecurity c).After-finish_case in record {
-      value = (λ i. record { refusal = c.no_refusal.ensures i; summary = m.given.0.0 }) ∙ ap summarized_answer told;
+    let m = c.in-WithSecurity in
+    let told = ap answer_of (sym m.is) ∙ answer (goal.at.returns-in-WithSecurity c).After-finish_case in record {
+      value = (λ i. record { refusal = c.no_refusal.ensures i; summary = m.summary }) ∙ ap summarized_answer told;
       counters_after = c.close.ensures;
     }
 
 pub returns-in-WithoutSecurity : goal.returns-in-WithoutSecurity
 unfolding summarized_answer
 returns-in-WithoutSecurity c =
-    let m = c.summary-in-WithoutSecurity-1 in
-    let told = ap answer_of (sym m.given.1) ∙ answer (goal.at.returns-in-WithoutSecurity c).After-finish_case in record {
-      value = (λ i. record { refusal = c.no_refusal-in-WithoutSecurity.ensures i; summary = m.given.0.0 }) ∙ ap summarized_answer told;
+    let m = c.in-WithoutSecurity in
+    let told = ap answer_of (sym m.is) ∙ answer (goal.at.returns-in-WithoutSecurity c).After-finish_case in record {
+      value = (λ i. record { refusal = c.no_refusal-in-WithoutSecurity.ensures i; summary = m.summary }) ∙ ap summarized_answer told;
       counters_after = c.close.ensures;
     }
 
 pub returns-in-Refused : goal.returns-in-Refused
 unfolding summarized_answer
 returns-in-Refused c =
-    let r = c.refusal-1 in
-    let told = ap answer_of (sym r.given.1) ∙ answer (goal.at.returns-in-Refused c).After-finish_case in record {
-      value = (λ i. record { refusal = r.given.0.0; summary = c.no_summary.ensures i }) ∙ ap summarized_answer told;
+    let r = c.in-Refused in
+    let told = ap answer_of (sym r.is) ∙ answer (goal.at.returns-in-Refused c).After-finish_case in record {
+      value = (λ i. record { refusal = r.refusal; summary = c.no_summary.ensures i }) ∙ ap summarized_answer told;
       counters_after = c.close.ensures;
     }

@@ -1,7 +1,5 @@
 -- The library's state, its counters as numbers.
 use mathlib.Core.Path.{ap, ◌∙◌}
-use borrow.Author.Rules.{rules}
-use Rattle.octets.proofs.Laws.Steps.{the}
 use Rattle.portion_reader.specs.Answer.{state_answer}
 use Rattle.portion_reader.proofs.ugb_start.Goals as goal
 

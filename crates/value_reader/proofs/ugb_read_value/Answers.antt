@@ -1,7 +1,5 @@
 -- The answer is handed on.
 use mathlib.Core.Path.{ap, ◌∙◌}
-use borrow.Author.Rules.{rules}
-use Rattle.octets.proofs.Laws.Steps.{the}
 use Rattle.value_reader.specs.Answer.{value_answer}
 use Rattle.value_reader.proofs.ugb_read_value.Goals as goal
 

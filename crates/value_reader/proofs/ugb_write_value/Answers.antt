@@ -1,7 +1,5 @@
 -- The answer is handed on.
 use mathlib.Core.Path.{ap, ◌∙◌}
-use borrow.Author.Rules.{rules}
-use Rattle.octets.proofs.Laws.Steps.{the}
 use Rattle.ugbariteyo.specs.Output.{output_answer}
 use Rattle.value_reader.proofs.ugb_write_value.Goals as goal
 

@@ -1,7 +1,5 @@
 -- Each number is its member, a yes or no by its flag.
 use mathlib.Core.List.{[], ◌∷◌}
-use borrow.Author.Rules.{rules}
-use Rattle.octets.proofs.Laws.Steps.{the}
 use Rattle.portion_reader.specs.Counters.{counters_of}
 use Rattle.portion_reader.proofs.counters.counters_of.Goals as goal
 

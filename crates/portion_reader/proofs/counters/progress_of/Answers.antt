@@ -1,6 +1,5 @@
 -- Each member is its number.
 use mathlib.Core.Path.{refl}
-use borrow.Author.Rules.{rules}
 use Rattle.portion_reader.specs.Counters.{progress_of}
 use Rattle.portion_reader.proofs.counters.progress_of.Goals as goal
 

@@ -7,25 +7,32 @@ mod told;
 
 use day::copy_day;
 use section::copy_section;
-use streams::word::is_word;
+use streams::streams::{Standard, standard};
+use streams::word::{has_word, is_word};
 use told::tell_usage;
 
-fn main() {
-    if os::arg_count() != 2 {
-        tell_usage();
+// With one word, besides the program's name.
+fn copy(rt: HostRuntime, streams: &mut Standard) {
+    if is_word(&rt, 1, b"day") {
+        copy_day(streams);
         return;
     }
-    if is_word(1, b"day") {
-        copy_day();
+    if is_word(&rt, 1, b"security") {
+        copy_section(streams, true);
         return;
     }
-    if is_word(1, b"security") {
-        copy_section(true);
+    if is_word(&rt, 1, b"properties") {
+        copy_section(streams, false);
         return;
     }
-    if is_word(1, b"properties") {
-        copy_section(false);
+    tell_usage(&mut streams.errors);
+}
+
+fn main(rt: HostRuntime) {
+    let mut streams = standard(rt);
+    if !has_word(&rt, 1) || has_word(&rt, 2) {
+        tell_usage(&mut streams.errors);
         return;
     }
-    tell_usage();
+    copy(rt, &mut streams);
 }

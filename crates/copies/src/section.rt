@@ -6,25 +6,30 @@ use rules::section::Output;
 use streams::input::{Ended, fill};
 use streams::output::put_first;
 use streams::section::{section_buffer, tell_too_long};
+use streams::streams::Standard;
 use support::copy::support_copy;
 
-fn put_copy(s: &[u8], security_first: bool) {
+fn put_copy(streams: &mut Standard, s: &[u8], security_first: bool) {
     let mut out = section_buffer();
     match support_copy(s, security_first, &mut out) {
-        Output::Refused(r) => tell_refused(r),
+        Output::Refused(r) => tell_refused(&mut streams.errors, r),
         Output::Written(n) => {
-            put_first(&out, n);
+            put_first(streams, &out, n);
         }
     }
 }
 
-pub(crate) fn copy_section(security_first: bool) {
+pub(crate) fn copy_section(streams: &mut Standard, security_first: bool) {
     let mut input = section_buffer();
-    let filled = fill(&mut input);
+    let filled = fill(streams, &mut input);
     let ended = filled.ended;
     match ended {
         Ended::Failed => {}
-        Ended::Full => tell_too_long(),
-        Ended::Over => put_copy(within(&input, Bytes(0), filled.count), security_first),
+        Ended::Full => tell_too_long(&mut streams.errors),
+        Ended::Over => put_copy(
+            streams,
+            within(&input, Bytes(0), filled.count),
+            security_first,
+        ),
     }
 }

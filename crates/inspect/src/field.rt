@@ -1,10 +1,10 @@
 // The field that a refusal is about, in words. No refusal is about another field than these.
 use crate::line::decimal;
-use crate::page::{Held, piece};
+use crate::page::{Held, Page, piece};
 use fields::field;
 use fields::field::FieldAt;
 
-fn name(number: u32, page: &mut [u8], held: Held) -> Held {
+fn name(number: u32, page: &mut Page, held: Held) -> Held {
     match number {
         field::SECURITY_HEADER => piece(b"SecurityHeader", page, held),
         field::SECURITY_FLAGS => piece(b"SecurityHeader Flags", page, held),
@@ -21,7 +21,7 @@ fn name(number: u32, page: &mut [u8], held: Held) -> Held {
 }
 
 // The field, and in a text the unit, counted from 0.
-pub(crate) fn words(found: FieldAt, page: &mut [u8], held: Held) -> Held {
+pub(crate) fn words(found: FieldAt, page: &mut Page, held: Held) -> Held {
     let held = name(found.field, page, held);
     let is_text = (found.field == field::LABEL) | (found.field == field::PROVIDER_NAME);
     if is_text {

@@ -14,18 +14,19 @@ mod words;
 use line::bytes;
 use octets::count::Bytes;
 use octets::part::within;
-use page::{Held, flush, piece};
+use page::{Held, Page, empty_page, flush, piece};
 use private::private;
 use reading::section::read;
 use refused::refused;
 use rules::section::{Output, Reading, Section};
 use streams::input::{Ended, fill};
 use streams::section::{section_buffer, tell_too_long};
+use streams::streams::{Standard, standard};
 use summary::summary;
 use support::copy::support_copy;
 use words::{Given, Words, given_words, tell_usage};
 
-fn copy(s: &[u8], security_first: bool, page: &mut [u8], held: Held) -> Held {
+fn copy(s: &[u8], security_first: bool, page: &mut Page, held: Held) -> Held {
     let mut out = section_buffer();
     match support_copy(s, security_first, &mut out) {
         Output::Refused(r) => refused(s, security_first, r, page, held),
@@ -33,9 +34,9 @@ fn copy(s: &[u8], security_first: bool, page: &mut [u8], held: Held) -> Held {
     }
 }
 
-fn accepted(s: &[u8], r: Section, words: Words, page: &mut [u8], held: Held) -> Held {
+fn accepted(s: &[u8], r: Section, words: Words, page: &mut Page, held: Held) -> Held {
     let held = piece(b"accepted\n", page, held);
-    let held = summary(s, r.summary, page, held);
+    let held = summary(s, &r.summary, page, held);
     let held = copy(s, words.security_first, page, held);
     if words.is_private {
         return private(s, r, page, held);
@@ -43,7 +44,7 @@ fn accepted(s: &[u8], r: Section, words: Words, page: &mut [u8], held: Held) -> 
     held
 }
 
-fn answer(s: &[u8], words: Words, page: &mut [u8]) -> Held {
+fn answer(s: &[u8], words: Words, page: &mut Page) -> Held {
     let none = Held {
         used: Bytes(0),
         is_failed: false,
@@ -54,26 +55,26 @@ fn answer(s: &[u8], words: Words, page: &mut [u8]) -> Held {
     }
 }
 
-fn inspect(s: &[u8], words: Words) {
-    let mut page = io::large_buffer();
+fn inspect(streams: Standard, s: &[u8], words: Words) {
+    let mut page = empty_page(streams);
     let held = answer(s, words, &mut page);
-    flush(&page, held);
+    flush(&mut page, held);
 }
 
-fn inspect_input(words: Words) {
+fn inspect_input(mut streams: Standard, words: Words) {
     let mut section = section_buffer();
-    let filled = fill(&mut section);
-    let ended = filled.ended;
-    match ended {
+    let filled = fill(&mut streams, &mut section);
+    match filled.ended {
         Ended::Failed => {}
-        Ended::Full => tell_too_long(),
-        Ended::Over => inspect(within(&section, Bytes(0), filled.count), words),
+        Ended::Full => tell_too_long(&mut streams.errors),
+        Ended::Over => inspect(streams, within(&section, Bytes(0), filled.count), words),
     }
 }
 
-fn main() {
-    match given_words() {
-        Given::Known(words) => inspect_input(words),
-        Given::Unknown => tell_usage(),
+fn main(rt: HostRuntime) {
+    let mut streams = standard(rt);
+    match given_words(&rt) {
+        Given::Known(words) => inspect_input(streams, words),
+        Given::Unknown => tell_usage(&mut streams.errors),
     }
 }

@@ -1,7 +1,7 @@
 // The line of a section that is refused: the number, the place, the field there, and the rule that it breaks.
 use crate::field::words;
 use crate::line::decimal;
-use crate::page::{Held, piece};
+use crate::page::{Held, Page, piece};
 use fields::field;
 use fields::field::FieldAt;
 use fields::place::refused_field;
@@ -9,7 +9,7 @@ use rules::refusal;
 use rules::refusal::Refusal;
 
 // The rule of an S step.
-fn security_rule(number: u32, page: &mut [u8], held: Held) -> Held {
+fn security_rule(number: u32, page: &mut Page, held: Held) -> Held {
     match number {
         refusal::SENDER_KIND => piece(b"ST above 2", page, held),
         refusal::AU_OR_AS => piece(b"AU or AS not zero", page, held),
@@ -26,7 +26,7 @@ fn security_rule(number: u32, page: &mut [u8], held: Held) -> Held {
 }
 
 // The rule of a P step, or of either header.
-fn rule(number: u32, page: &mut [u8], held: Held) -> Held {
+fn rule(number: u32, page: &mut Page, held: Held) -> Held {
     match number {
         refusal::INPUT_SHORT => piece(b"input ends before the section does", page, held),
         refusal::ABOVE_THE_LIMIT => piece(b"longer than 4,194,304 bytes", page, held),
@@ -48,7 +48,7 @@ fn rule(number: u32, page: &mut [u8], held: Held) -> Held {
 }
 
 // The field there, where there is one.
-fn named(found: FieldAt, page: &mut [u8], held: Held) -> Held {
+fn named(found: FieldAt, page: &mut Page, held: Held) -> Held {
     if found.field == field::NONE {
         return piece(b": ", page, held);
     }
@@ -57,7 +57,7 @@ fn named(found: FieldAt, page: &mut [u8], held: Held) -> Held {
     piece(b"): ", page, held)
 }
 
-fn number_and_place(r: Refusal, page: &mut [u8], held: Held) -> Held {
+fn number_and_place(r: Refusal, page: &mut Page, held: Held) -> Held {
     let held = piece(b"refused ", page, held);
     let held = decimal(r.number as u64, page, held);
     let held = piece(b" at ", page, held);
@@ -69,7 +69,7 @@ pub(crate) fn refused(
     s: &[u8],
     security_first: bool,
     r: Refusal,
-    page: &mut [u8],
+    page: &mut Page,
     held: Held,
 ) -> Held {
     let held = number_and_place(r, page, held);

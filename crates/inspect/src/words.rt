@@ -1,31 +1,32 @@
 // The words that the program is started with.
+use std::env::Env;
+use std::io::Write;
 use streams::output::tell;
-use streams::word::is_word;
+use streams::word::{has_word, is_word};
 
-#[derive(Drop)]
+#[derive(Clone, Copy)]
 pub(crate) struct Words {
     pub security_first: bool,
     pub is_private: bool,
 }
 
-#[derive(Drop)]
+#[derive(Clone, Copy)]
 pub(crate) enum Given {
     Known(Words),
     Unknown,
 }
 
-// `security` or `properties`, and then nothing or `private`. The program's name counts as a word.
-pub(crate) fn given_words() -> Given {
-    let count = os::arg_count();
-    let security_first = is_word(1, b"security");
-    let is_private = count == 3;
-    if 3 < count {
+// `security` or `properties`, and then nothing or `private`.
+pub(crate) fn given_words<V: Env>(env: &V) -> Given {
+    let security_first = is_word(env, 1, b"security");
+    let is_private = has_word(env, 2);
+    if has_word(env, 3) {
         return Given::Unknown;
     }
-    if !security_first && !is_word(1, b"properties") {
+    if !security_first && !is_word(env, 1, b"properties") {
         return Given::Unknown;
     }
-    if is_private && !is_word(2, b"private") {
+    if is_private && !is_word(env, 2, b"private") {
         return Given::Unknown;
     }
     Given::Known(Words {
@@ -34,9 +35,18 @@ pub(crate) fn given_words() -> Given {
     })
 }
 
-pub(crate) fn tell_usage() {
-    tell(b"usage: inspect security|properties [private] < SECTION\n");
-    tell(b"  security    a SecurityHeader stands first\n");
-    tell(b"  properties  the MessagePropertiesHeader stands first\n");
-    tell(b"  private     print CorrelationID, ApplicationTag and the private parts too\n");
+pub(crate) fn tell_usage<E: Write>(errors: &mut E) {
+    tell(
+        errors,
+        b"usage: inspect security|properties [private] < SECTION\n",
+    );
+    tell(errors, b"  security    a SecurityHeader stands first\n");
+    tell(
+        errors,
+        b"  properties  the MessagePropertiesHeader stands first\n",
+    );
+    tell(
+        errors,
+        b"  private     print CorrelationID, ApplicationTag and the private parts too\n",
+    );
 }

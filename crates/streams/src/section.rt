@@ -2,6 +2,7 @@
 ghost use Rattle.std.specs.Prelude.{◌≡◌, length, replicate};
 
 use crate::output::{tell, tell_number};
+use std::io::Write;
 
 // The longest input that is read. The section and its copy lie on the stack, each in a buffer that is a byte longer, and
 // the stack has 8 MiB in most systems.
@@ -16,8 +17,11 @@ pub fn section_buffer() -> [u8; 3145729]
     [0; 3145729]
 }
 
-pub fn tell_too_long() {
-    tell(b"the input is longer than ");
-    tell_number(LONGEST as u64);
-    tell(b" bytes, and this program reads no more; a section has at most 4,194,304\n");
+pub fn tell_too_long<E: Write>(errors: &mut E) {
+    tell(errors, b"the input is longer than ");
+    tell_number(errors, LONGEST as u64);
+    tell(
+        errors,
+        b" bytes, and this program reads no more; a section has at most 4,194,304\n",
+    );
 }

@@ -1,15 +1,19 @@
 // Standard input through a buffer: the part of it that is held, and reading on.
-ghost use Rattle.std.specs.Prelude.{◌≡◌, false};
+ghost use Rattle.std.specs.Prelude.{◌≡◌, ◌<◌, ◌≤◌, true, false, drop, length, take};
+ghost use Rattle.std.specs.Io.KnownBytes.{Consumes, IsAtEnd};
+ghost use Rattle.records.specs.Enough.{is_enough};
 ghost use Rattle.streams.specs.Window.{ReadOn, Refilled, bytes_held, front, held, window_behind, window_to};
 
 use crate::input::{Ended, fill};
+use crate::streams::Streams;
 use octets::count::{Bytes, smaller};
 use octets::over::move_to_front;
 use octets::part::within;
 use records::enough::is_enough;
+use std::io::{Read, Write};
 
 // The buffer's bytes from `start` to `end`; whether the input ends with them, and whether a read has failed.
-#[derive(Drop)]
+#[derive(Clone, Copy)]
 pub struct Window {
     pub start: Bytes,
     pub end: Bytes,
@@ -89,26 +93,46 @@ fn window_to(end: Bytes, ended: Ended) -> Window
 }
 
 // Moves the bytes held to the buffer's front, and reads on behind them until it is full. A window that does not lie in
-// the buffer counts as a failed read.
-pub fn read_on(buffer: &mut [u8], window: Window) -> Window
-    ensures { ReadOn window result buffer.old buffer.new }
+// the buffer counts as a failed read. Of a reader whose bytes are known, those that are read stand behind the bytes held,
+// and none are left where the input is over.
+pub fn read_on<I: Read, O, E: Write>(
+    streams: &mut Streams<I, O, E>,
+    buffer: &mut [u8],
+    window: Window,
+) -> Window
+    ensures read_on { ReadOn window result buffer.old buffer.new }
+    ensures read { window.end.0 ≤ length buffer.old
+        → Consumes (I.remaining streams.old.input) (I.remaining streams.new.input)
+        (drop (held window) (take result.end.0 buffer.new)) }
+    ensures over { result.is_over ≡ true → IsAtEnd (I.remaining streams.new.input) }
+    ensures unread { length buffer.old < window.end.0 → streams.new.input ≡ streams.old.input }
 {
     if buffer.len() < window.end.0 {
         return window_to(Bytes(0), Ended::Failed);
     }
     let held = window.held().0;
     move_to_front(buffer, window.start, window.end);
-    let filled = fill(&mut buffer[held..]);
+    let filled = fill(streams, &mut buffer[held..]);
     let ended = filled.ended;
     window_to(Bytes(held + filled.count.0), ended)
 }
 
 // Reads on where the bytes held may not decide the next record of a day's file.
-pub fn refill(buffer: &mut [u8], window: Window) -> Window
-    ensures { Refilled window result buffer.old buffer.new }
+pub fn refill<I: Read, O, E: Write>(
+    streams: &mut Streams<I, O, E>,
+    buffer: &mut [u8],
+    window: Window,
+) -> Window
+    ensures refilled { Refilled window result buffer.old buffer.new }
+    ensures read { is_enough (held window) window.is_over ≡ false → window.end.0 ≤ length buffer.old
+        → Consumes (I.remaining streams.old.input) (I.remaining streams.new.input)
+        (drop (held window) (take result.end.0 buffer.new)) }
+    ensures over { is_enough (held window) window.is_over ≡ false → result.is_over ≡ true
+        → IsAtEnd (I.remaining streams.new.input) }
+    ensures unread { is_enough (held window) window.is_over ≡ true → streams.new.input ≡ streams.old.input }
 {
     if is_enough(window.held(), window.is_over) {
         return window;
     }
-    read_on(buffer, window)
+    read_on(streams, buffer, window)
 }

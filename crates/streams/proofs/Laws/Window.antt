@@ -1,13 +1,16 @@
 -- The bytes held, moved to the front, whatever is read behind them.
 use Prim.Native.Nat.{ℕ, ◌+◌, ◌-◌, ◌≤◌}
 use mathlib.Core.Path.{◌≡◌, refl, sym, ap, ◌∙◌}
-use mathlib.Core.Bool.{Bool, true, false}
+use mathlib.Core.Bool.{Bool, true, false, false≢true}
 use mathlib.Core.List.{List, ◌++◌}
 use native.Mathlib.Omega.{arith}
 use borrow.Author.Tests.{ltb-false, ltb-true}
 use lib.ListN.{length, take, drop}
 use lib.Seq.{take_at}
 use lib.Dec.{ltb}
+use Rattle.streams.specs.Window.{window_to}
+use Rattle.streams.specs.declared.input.Ended.{Ended}
+use Rattle.streams.specs.declared.input.Ended.TheVariants.{Full, Over, Failed}
 use Rattle.octets.specs.Over.{moved_to_front, over}
 use Rattle.octets.specs.Part.{within}
 use Rattle.octets.proofs.Laws.Part.{length-within, within_in}
@@ -29,3 +32,17 @@ moved-kept s a e n rest size inside = go (ltb e a) refl
         ∙ take_at part rest n l
         ∙ within_in s a (e - a) fits
         ∙ ap (λ (k : ℕ). take k (drop a s)) (sym size)
+
+-- however reading ended, the window ends where the bytes do
+pub window-end : (end : ℕ) (e : Ended) → (window_to end e).end.0 ≡ end
+unfolding window_to
+window-end end Full = refl
+window-end end Over = refl
+window-end end Failed = refl
+
+-- the input is over only where reading ended so
+pub window-over : (end : ℕ) (e : Ended) → (window_to end e).is_over ≡ true → e ≡ Over
+unfolding window_to
+window-over end Full h = absurd (false≢true h)
+window-over end Over h = refl
+window-over end Failed h = absurd (false≢true h)

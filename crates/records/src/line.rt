@@ -12,7 +12,7 @@ use rules::refusal::Refusal;
 
 // The names of the columns; a record's number and answer; the last line, where the file ends behind so many whole records,
 // or where the record of this number is wrong or cut.
-#[derive(Drop)]
+#[derive(Clone, Copy)]
 pub enum Row {
     Header,
     Record(u64, Answer),

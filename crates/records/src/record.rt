@@ -11,7 +11,7 @@ use rules::properties::section_end;
 use rules::refusal::Refusal;
 
 // The values of a listing line: 01's columns class, label, ext, body and total.
-#[derive(Drop)]
+#[derive(Clone, Copy)]
 pub struct Line {
     pub message_class: u16,
     pub label_length: Units,
@@ -20,7 +20,7 @@ pub struct Line {
     pub section_length: Bytes,
 }
 
-#[derive(Drop)]
+#[derive(Clone, Copy)]
 pub enum Answer {
     Accepted(Line),
     Refused(Refusal),

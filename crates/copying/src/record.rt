@@ -11,21 +11,21 @@ use rules::section::Output;
 use support::copy::support_copy;
 
 // How many bytes of the file the record takes, and how many its copy takes of the output.
-#[derive(Drop)]
+#[derive(Clone, Copy)]
 pub struct RecordCopy {
     pub size: Bytes,
     pub written: Bytes,
 }
 
 // A record that is left out.
-#[derive(Drop)]
+#[derive(Clone, Copy)]
 pub struct LeftOut {
     pub size: Bytes,
     pub refusal: Refusal,
 }
 
 // `End` and `Stop` as of a head.
-#[derive(Drop)]
+#[derive(Clone, Copy)]
 pub enum CopiedRecord {
     End,
     Stop,

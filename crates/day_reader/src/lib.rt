@@ -10,7 +10,7 @@ use days::slot::VALUES;
 use days::table::read_day;
 
 #[repr(C)]
-#[derive(Drop)]
+#[derive(Clone, Copy)]
 pub struct UgbDay {
     pub refusal: DayRefusal,
     pub records: Records,

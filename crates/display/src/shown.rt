@@ -46,7 +46,7 @@ fn put_unit(u: u16, out: &mut [u8], at: Bytes) -> Bytes
 }
 
 // How much of a text is shown, and in how many bytes.
-#[derive(Drop)]
+#[derive(Clone, Copy)]
 pub struct Shown {
     pub taken: Bytes,
     pub length: Bytes,

@@ -3,7 +3,7 @@ use octets::count::Bytes;
 
 // The field that holds a byte, and the byte's offset in it.
 #[repr(C)]
-#[derive(Drop)]
+#[derive(Clone, Copy)]
 pub struct FieldAt {
     pub field: u32,
     pub offset: Bytes,

@@ -24,7 +24,7 @@ use rules::section::Summary;
 use ugbariteyo::zero::{no_refusal, no_summary};
 
 #[repr(C)]
-#[derive(Drop)]
+#[derive(Clone, Copy)]
 pub struct UgbPortions {
     pub counters: [usize; COUNTERS],
     pub head: [u8; 18],
@@ -33,7 +33,7 @@ pub struct UgbPortions {
 }
 
 #[repr(C)]
-#[derive(Drop)]
+#[derive(Clone, Copy)]
 pub struct UgbSummarized {
     pub refusal: Refusal,
     pub summary: Summary,

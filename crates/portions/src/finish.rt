@@ -23,7 +23,7 @@ use rules::refusal::Refusal;
 use rules::section::{Summarized, Summary};
 use rules::security::{SecurityFields, security_steps};
 
-#[derive(Drop)]
+#[derive(Clone, Copy)]
 pub struct Finished {
     pub progress: Progress,
     pub answer: Summarized,
@@ -31,7 +31,7 @@ pub struct Finished {
 
 // The answer of a finish. A section with a SecurityHeader and one without are cases by themselves, so that a caller that
 // fills an answer has each filled in place.
-#[derive(Drop)]
+#[derive(Clone, Copy)]
 pub enum FinishCase {
     WithSecurity(Summary),
     WithoutSecurity(Summary),

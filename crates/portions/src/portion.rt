@@ -13,7 +13,7 @@ use crate::window::{less, passed, show};
 use octets::count::{Bytes, smaller};
 use rules::refusal::Refusal;
 
-#[derive(Drop)]
+#[derive(Clone, Copy)]
 pub enum PortionAnswer {
     Taken(Progress),
     Refused(Refusal),

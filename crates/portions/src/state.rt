@@ -23,7 +23,7 @@ pub struct Progress {
 // The SecurityHeader's fixed bytes and the first two of its identity; the provider's type; the MessagePropertiesHeader's
 // fixed bytes and a label of at most 250 units. A byte that has not come is 0.
 #[repr(C)]
-#[derive(Drop)]
+#[derive(Clone, Copy)]
 pub struct State {
     pub progress: Progress,
     pub head: [u8; 18],

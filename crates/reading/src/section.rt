@@ -101,7 +101,7 @@ pub fn judge(s: &[u8], security_first: bool) -> Refusal
 }
 
 // Where the MessagePropertiesHeader of a section begins that passed every step; or the refusal.
-#[derive(Drop)]
+#[derive(Clone, Copy)]
 pub enum Judged {
     Passed(Bytes),
     Refused(Refusal),
@@ -208,7 +208,7 @@ pub fn summarize(s: &[u8], security_first: bool) -> Summarized
 // The full reading. A section with a SecurityHeader and one without are cases by themselves, so that a caller that fills
 // an answer has each filled in place: where the two meet, every number of the section is held in between. (That is so
 // for one caller in an archive: a second would have the function called, and its answer moved.)
-#[derive(Drop)]
+#[derive(Clone, Copy)]
 pub enum ReadingCase {
     WithSecurity(Section),
     WithoutSecurity(Section),

@@ -11,14 +11,14 @@ pub const HEAD: usize = 8;
 pub const LONGEST: usize = 32768;
 
 // `length` is the section's.
-#[derive(Drop)]
+#[derive(Clone, Copy)]
 pub struct Head {
     pub security_first: bool,
     pub length: Bytes,
 }
 
 // `End` where the file ends behind a whole record, `Stop` at a wrong or cut head or a cut section.
-#[derive(Drop)]
+#[derive(Clone, Copy)]
 pub enum NextHead {
     End,
     Stop,

@@ -27,7 +27,7 @@ pub enum Answer {
 }
 
 // `size` counts head and section together.
-#[derive(Drop)]
+#[derive(Clone, Copy)]
 pub struct Record {
     pub size: Bytes,
     pub security_first: bool,
@@ -35,7 +35,7 @@ pub struct Record {
 }
 
 // As `NextHead`, the record in the head's place.
-#[derive(Drop)]
+#[derive(Clone, Copy)]
 pub enum Next {
     End,
     Stop,

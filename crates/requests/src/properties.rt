@@ -6,7 +6,7 @@ use octets::count::{Bytes, Units};
 use rules::refusal::Refusal;
 
 // What no section carries.
-#[derive(Drop)]
+#[derive(Clone, Copy)]
 pub struct HandlingValues {
     pub priority: u32,
     pub trace: u32,
@@ -21,41 +21,41 @@ pub struct HandlingValues {
     pub time_to_live: u32,
 }
 
-#[derive(Drop)]
+#[derive(Clone, Copy)]
 pub enum Handling {
     Known(HandlingValues),
     NotKnown,
 }
 
 // What only a SecurityHeader carries.
-#[derive(Drop)]
+#[derive(Clone, Copy)]
 pub struct SenderValues {
     pub kind: u32,
     pub default_provider: bool,
     pub encryption: bool,
 }
 
-#[derive(Drop)]
+#[derive(Clone, Copy)]
 pub enum Sender {
     Known(SenderValues),
     NotKnown,
 }
 
 // What only provider info carries.
-#[derive(Drop)]
+#[derive(Clone, Copy)]
 pub enum ProviderType {
     Known(u32),
     NotKnown,
 }
 
 // A request's privacy, 0, 1 or 2, which a packet holds as 0, 1 or 3, or a packet's level that no request's becomes.
-#[derive(Drop)]
+#[derive(Clone, Copy)]
 pub enum Privacy {
     Request(u32),
     Packet(u32),
 }
 
-#[derive(Drop)]
+#[derive(Clone, Copy)]
 pub struct Properties {
     pub handling: Handling,
     pub sender: Sender,
@@ -75,7 +75,7 @@ pub struct Properties {
     pub signature: Bytes,
 }
 
-#[derive(Drop)]
+#[derive(Clone, Copy)]
 pub enum Defaulted {
     Properties(Properties),
     Refused(Refusal),

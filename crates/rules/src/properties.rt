@@ -31,7 +31,7 @@ pub struct PropertiesFields {
 
 // The three parts, and the section's length with the padding at its end.
 #[repr(C)]
-#[derive(Drop)]
+#[derive(Clone, Copy)]
 pub struct PropertiesParts {
     pub label: Part,
     pub extension: Part,

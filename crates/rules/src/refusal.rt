@@ -9,7 +9,7 @@ pub struct Refusal {
 }
 
 // What the steps of a request find.
-#[derive(Drop)]
+#[derive(Clone, Copy)]
 pub enum Checked {
     Passed,
     Refused(Refusal),

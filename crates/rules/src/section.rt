@@ -24,7 +24,7 @@ pub struct Part {
 
 // 01's summary: every judged field, the parts and the verdicts. Label and provider name are read through their parts.
 #[repr(C)]
-#[derive(Drop)]
+#[derive(Clone, Copy)]
 pub struct Summary {
     pub security_first: bool,
     pub security: SecurityHeader,
@@ -35,7 +35,7 @@ pub struct Summary {
     pub retired: bool,
 }
 
-#[derive(Drop)]
+#[derive(Clone, Copy)]
 pub enum Summarized {
     Accepted(Summary),
     Refused(Refusal),
@@ -43,21 +43,21 @@ pub enum Summarized {
 
 // 01's full reading: the summary, and what else the section carries. Private parts are read through their parts.
 #[repr(C)]
-#[derive(Drop)]
+#[derive(Clone, Copy)]
 pub struct Section {
     pub summary: Summary,
     pub correlation_id: Part,
     pub application_tag: u32,
 }
 
-#[derive(Drop)]
+#[derive(Clone, Copy)]
 pub enum Reading {
     Accepted(Section),
     Refused(Refusal),
 }
 
 // What a function that writes to a lent output answers: the bytes written, or the refusal.
-#[derive(Drop)]
+#[derive(Clone, Copy)]
 pub enum Output {
     Written(Bytes),
     Refused(Refusal),

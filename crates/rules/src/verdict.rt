@@ -6,7 +6,7 @@ ghost use Rattle.rules.specs.Summary.{authentication_fails, decryption_fails, re
 use crate::properties::PropertiesFields;
 use crate::security::{EB, SecurityFields};
 
-#[derive(Drop)]
+#[derive(Clone, Copy)]
 pub struct Verdicts {
     pub authentication_fails: bool,
     pub decryption_fails: bool,

@@ -1,4 +1,4 @@
--- Filling a buffer of so many bytes. Of the bytes that are read nothing can be promised.
+-- Filling a buffer of so many bytes. Which bytes are read `fill` promises of a reader whose bytes are known.
 use Rattle.std.specs.Prelude.{ℕ, ◌≤◌, ◌≡◌, Bool, true, false, eqb}
 use Rattle.streams.specs.declared.input.Ended.{Ended}
 use Rattle.streams.specs.declared.input.Ended.TheVariants.{Full, Over, Failed}

@@ -3,7 +3,7 @@ use octets::count::Bytes;
 use rules::properties::PropertiesFields;
 
 // Its MessagePropertiesHeader begins at `start`, where a SecurityHeader ends if one stands first.
-#[derive(Drop)]
+#[derive(Clone, Copy)]
 pub struct Placed {
     pub start: Bytes,
     pub properties: PropertiesFields,

@@ -13,7 +13,7 @@ use rules::refusal::Refusal;
 use rules::section::CorrelationId;
 
 #[repr(C)]
-#[derive(Drop)]
+#[derive(Clone, Copy)]
 pub struct UgbDefaulted {
     pub refusal: Refusal,
     pub properties: UgbProperties,

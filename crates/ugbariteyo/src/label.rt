@@ -8,7 +8,7 @@ use rules::section::Part;
 
 // Whether the caller's stand-in is shown; else the part of the input that is.
 #[repr(C)]
-#[derive(Drop)]
+#[derive(Clone, Copy)]
 pub struct UgbLabel {
     pub stand_in: bool,
     pub part: Part,

@@ -8,7 +8,7 @@ use rules::refusal::Refusal;
 use rules::section::Output;
 
 #[repr(C)]
-#[derive(Drop)]
+#[derive(Clone, Copy)]
 pub struct UgbOutput {
     pub refusal: Refusal,
     pub length: Bytes,

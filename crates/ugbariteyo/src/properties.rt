@@ -13,7 +13,7 @@ use rules::section::Section;
 
 // What no section carries.
 #[repr(C)]
-#[derive(Drop)]
+#[derive(Clone, Copy)]
 pub struct UgbHandling {
     pub known: bool,
     pub priority: u32,
@@ -30,7 +30,7 @@ pub struct UgbHandling {
 
 // What only a SecurityHeader carries.
 #[repr(C)]
-#[derive(Drop)]
+#[derive(Clone, Copy)]
 pub struct UgbSender {
     pub known: bool,
     pub kind: u32,
@@ -40,14 +40,14 @@ pub struct UgbSender {
 
 // A request's privacy, or a packet's level that no request's becomes.
 #[repr(C)]
-#[derive(Drop)]
+#[derive(Clone, Copy)]
 pub struct UgbPrivacy {
     pub packet: bool,
     pub level: u32,
 }
 
 #[repr(C)]
-#[derive(Drop)]
+#[derive(Clone, Copy)]
 pub struct UgbProperties {
     pub handling: UgbHandling,
     pub sender: UgbSender,

@@ -15,7 +15,7 @@ use rules::refusal::Refusal;
 use rules::section::Part;
 
 #[repr(C)]
-#[derive(Drop)]
+#[derive(Clone, Copy)]
 pub struct UgbImageRead {
     pub refusal: Refusal,
     pub format: QueueFormat,

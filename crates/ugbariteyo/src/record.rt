@@ -19,7 +19,7 @@ pub const FOUND: u32 = 2;
 
 // `size` counts head and section together; `section` is where the section lies.
 #[repr(C)]
-#[derive(Drop)]
+#[derive(Clone, Copy)]
 pub struct UgbRecord {
     pub next: u32,
     pub size: Bytes,

@@ -11,7 +11,7 @@ use rules::refusal::Refusal;
 use rules::section::Section;
 
 #[repr(C)]
-#[derive(Drop)]
+#[derive(Clone, Copy)]
 pub struct UgbReading {
     pub refusal: Refusal,
     pub section: Section,

@@ -9,7 +9,7 @@ use rules::section::Output;
 
 // What reading needs beside the bytes: whether a SecurityHeader stands first in them.
 #[repr(C)]
-#[derive(Drop)]
+#[derive(Clone, Copy)]
 pub struct UgbSent {
     pub refusal: Refusal,
     pub length: Bytes,

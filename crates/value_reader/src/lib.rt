@@ -14,14 +14,14 @@ use values::read::{ValueRead, read_value, value_of, value_of_bits};
 use values::write::write_value;
 
 #[repr(C)]
-#[derive(Drop)]
+#[derive(Clone, Copy)]
 pub struct UgbBodyValue {
     pub body_type: u32,
     pub bits: u64,
 }
 
 #[repr(C)]
-#[derive(Drop)]
+#[derive(Clone, Copy)]
 pub struct UgbValueRead {
     pub refusal: Refusal,
     pub value: UgbBodyValue,

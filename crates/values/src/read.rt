@@ -23,7 +23,7 @@ use rules::refusal::Refusal;
 use rules::{refusal, security};
 
 // The value, or the refusal.
-#[derive(Drop)]
+#[derive(Clone, Copy)]
 pub enum ValueRead {
     Accepted(BodyValue),
     Refused(Refusal),

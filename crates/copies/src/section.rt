@@ -2,7 +2,6 @@
 use crate::told::tell_refused;
 use octets::count::Bytes;
 use octets::part::within;
-use rules::section::Output;
 use streams::input::{Ended, fill};
 use streams::output::put_first;
 use streams::section::{section_buffer, tell_too_long};
@@ -12,18 +11,18 @@ use support::copy::support_copy;
 fn put_copy(streams: &mut Standard, s: &[u8], security_first: bool) {
     let mut out = section_buffer();
     match support_copy(s, security_first, &mut out) {
-        Output::Refused(r) => tell_refused(&mut streams.errors, r),
-        Output::Written(n) => {
+        Err(r) => tell_refused(&mut streams.errors, r),
+        Ok(n) => {
             put_first(streams, &out, n);
         }
     }
 }
 
+// (`inspect` fills its section alike; what each then does, and with which streams, differs.)
 pub(crate) fn copy_section(streams: &mut Standard, security_first: bool) {
     let mut input = section_buffer();
     let filled = fill(streams, &mut input);
-    let ended = filled.ended;
-    match ended {
+    match filled.ended {
         Ended::Failed => {}
         Ended::Full => tell_too_long(&mut streams.errors),
         Ended::Over => put_copy(

@@ -1,4 +1,5 @@
-// What is told on standard error. Nothing of it is taken from a section but its refusal.
+// What is told on standard error. Nothing of it is taken from a section but its refusal. Piece by piece: where a piece
+// cannot be written the next is tried, and `write!` would stop there.
 use rules::refusal::Refusal;
 use std::io::Write;
 use streams::output::{tell, tell_number};

@@ -1,5 +1,9 @@
 -- The three statements, from what the copier's answer tells, from demand 3, and from a head that is read as it was written.
 use Prim.Native.Nat.{ℕ, ◌+◌, ◌<◌, ◌≤◌}
+use Rattle.records.specs.declared.head.Next.TheVariants.{End, Found, Stop}
+use Rattle.records.specs.declared.head.Next.{Next}
+use Rattle.rules.specs.declared.refusal.Refusal.{Refusal}
+use Rattle.std.specs.Prelude.{Err, Ok, Result}
 use mathlib.Core.Path.{◌≡◌, refl, sym, ap, ap₂, subst, ◌∙◌}
 use mathlib.Core.Bool.{Bool, true, false}
 use mathlib.Core.List.{List, [], ◌++◌, append-nil}
@@ -16,10 +20,6 @@ use Rattle.rules.specs.Output.{writer_output}
 use Rattle.rules.specs.Reading.{SameSummary, summarize}
 use Rattle.rules.specs.Refusal.{bytes, refusal}
 use Rattle.rules.specs.Support.{copy_answer, copy_output, support_answer, support_bytes}
-use Rattle.rules.specs.declared.section.Output.{Output}
-use Rattle.rules.specs.declared.section.Output.TheVariants.{Written, Refused as Output-as-Refused}
-use Rattle.rules.specs.declared.section.Summarized.{Summarized}
-use Rattle.rules.specs.declared.section.Summarized.TheVariants.{Accepted, Refused as Summarized-as-Refused}
 use Rattle.rules.specs.declared.section.Summary.{Summary}
 use Rattle.rules.proofs.Laws.Output.{answer-written}
 use Rattle.secrecy.proofs.Demand3.{agrees-reads, copies-agree, demand3}
@@ -28,9 +28,6 @@ use Rattle.secrecy.proofs.Unread.{bytes_after}
 use Rattle.records.specs.Head.{head_bytes, next_head, section_behind}
 use Rattle.records.specs.Record.{answer_of, next_record, record_behind}
 use Rattle.records.specs.declared.head.Head.{Head}
-use Rattle.records.specs.declared.head.NextHead.{NextHead}
-use Rattle.records.specs.declared.head.NextHead.TheVariants.{End as NextHead-as-End, Stop as NextHead-as-Stop, Found}
-use Rattle.records.specs.declared.record.Next.TheVariants.{Found as Next-as-Found}
 use Rattle.records.specs.declared.record.Record.{Record}
 use Rattle.records.proofs.Laws.Head.{head-fits, head_read, length-head}
 use Rattle.copying.specs.Record.{answer_behind, bytes_behind, bytes_from, copy_bytes, copy_from, copy_record, section_answer}
@@ -57,13 +54,13 @@ module _ (s out : List ℕ) (h : Head) (found : next_head s ≡ Found h) where
   answer = ap (copy_from s out) found
 
   -- a refusal that is no 13 is the section's
-  refused : (l : LeftOut) → 8 + 32768 ≤ length out → copy_record s out ≡ Refused l → summarize first section ≡ Summarized-as-Refused l.refusal
+  refused : (l : LeftOut) → 8 + 32768 ≤ length out → copy_record s out ≡ Refused l → summarize first section ≡ Err l.refusal
   unfolding answer_behind support_answer copy_answer
   refused l room e = go (summarize first section) refl (sym answer ∙ e)
     where
-      go : (x : Summarized) → summarize first section ≡ x → answer_behind h (copy_answer (drop 8 out) x) ≡ Refused l
-          → summarize first section ≡ Summarized-as-Refused l.refusal
-      go (Accepted m) a e =
+      go : (x : Result Summary Refusal) → summarize first section ≡ x → answer_behind h (copy_answer (drop 8 out) x) ≡ Refused l
+          → summarize first section ≡ Err l.refusal
+      go (Ok m) a e =
           let f = head-fits s h found in
           let size = section-size first section m a in
           let n = m.parts.section_length.0 in
@@ -71,10 +68,10 @@ module _ (s out : List ℕ) (h : Head) (found : next_head s ≡ Found h) where
           let fits = answer-written (refusal 0 0) n (drop 8 out) refl room in
           let z : ◌≡◌ {A = ℕ} 0 1 = cc fits in
           absurd (omega arith)
-      go (Summarized-as-Refused r) a e = a ∙ ap Summarized-as-Refused (let same : r ≡ l.refusal = cc in same)
+      go (Err r) a e = a ∙ ap Err (let same : r ≡ l.refusal = cc in same)
 
   -- what the copy of a section is a copy of
-  module _ (n : Bytes) (octets : Octets section) (told : support_answer first section (drop 8 out) ≡ Written n) where
+  module _ (n : Bytes) (octets : Octets section) (told : support_answer first section (drop 8 out) ≡ Ok n) where
     abbrev copied : List ℕ
     copied = support_bytes first section (drop 8 out)
 
@@ -106,13 +103,13 @@ module _ (s out : List ℕ) (h : Head) (found : next_head s ≡ Found h) where
     head = record { security_first = first; length = n }
 
     line : next_record (head_bytes head ++ copied)
-        ≡ Next-as-Found (record { size = bytes (8 + n.0); security_first = first; answer = answer_of (summarize first section) })
+        ≡ Found (record { size = bytes (8 + n.0); security_first = first; answer = answer_of (summarize first section) })
     unfolding next_record record_behind section_behind
     line =
         ap (record_behind (head_bytes head ++ copied)) (head_read n.0 copied small inside first)
-        ∙ ap (λ (x : List ℕ). Next-as-Found (record { size = bytes (8 + n.0); security_first = first; answer = answer_of (summarize first (take n.0 x)) }))
+        ∙ ap (λ (x : List ℕ). Found (record { size = bytes (8 + n.0); security_first = first; answer = answer_of (summarize first (take n.0 x)) }))
         (drop_at (head_bytes head) copied 8 (length-head head))
-        ∙ ap (λ (x : Summarized). Next-as-Found (record { size = bytes (8 + n.0); security_first = first; answer = answer_of x })) cut-read
+        ∙ ap (λ (x : Result Summary Refusal). Found (record { size = bytes (8 + n.0); security_first = first; answer = answer_of x })) cut-read
 
 -- the bytes of a section are bytes
 octets-behind : (h : Head) (s : List ℕ) → Octets s → Octets (section_behind h s)
@@ -129,38 +126,38 @@ octets-behind h s b i = go (ltb i h.length.0) refl
         get_or-eq_default (take h.length.0 (drop 8 s)) 0 (omega (arith, length-take h.length.0 (drop 8 s))) in
         omega arith
 
-listed : (s out : List ℕ) (c : RecordCopy) (r : Record) → Octets s → copy_record s out ≡ Copied c → next_record s ≡ Next-as-Found r
-    → next_record (copy_bytes s out) ≡ Next-as-Found (record { size = c.written; security_first = r.security_first; answer = r.answer })
+listed : (s out : List ℕ) (c : RecordCopy) (r : Record) → Octets s → copy_record s out ≡ Copied c → next_record s ≡ Found r
+    → next_record (copy_bytes s out) ≡ Found (record { size = c.written; security_first = r.security_first; answer = r.answer })
 unfolding copy_record copy_bytes copy_from bytes_from answer_behind bytes_behind section_answer next_record record_behind
 listed s out c r octets copied next = go (next_head s) refl copied next
   where
-    behind : (h : Head) (x : Output) → next_head s ≡ Found h → support_answer h.security_first (section_behind h s) (drop 8 out) ≡ x
-        → answer_behind h x ≡ Copied c → record_behind s (Found h) ≡ Next-as-Found r
+    behind : (h : Head) (x : Result Bytes Refusal) → next_head s ≡ Found h → support_answer h.security_first (section_behind h s) (drop 8 out) ≡ x
+        → answer_behind h x ≡ Copied c → record_behind s (Found h) ≡ Found r
         → next_record (bytes_behind h (section_behind h s) out x)
-        ≡ Next-as-Found (record { size = c.written; security_first = r.security_first; answer = r.answer })
-    behind h (Written n) found told e f =
+        ≡ Found (record { size = c.written; security_first = r.security_first; answer = r.answer })
+    behind h (Ok n) found told e f =
         line s out h found n (octets-behind h s octets) told
         ∙ (cc)
-    behind h (Output-as-Refused x) found told e f = absurd (let z : ◌≡◌ {A = ℕ} 0 1 = cc in omega arith)
+    behind h (Err x) found told e f = absurd (let z : ◌≡◌ {A = ℕ} 0 1 = cc in omega arith)
 
-    go : (n : NextHead) → next_head s ≡ n → copy_from s out n ≡ Copied c → record_behind s n ≡ Next-as-Found r
+    go : (n : Next Head) → next_head s ≡ n → copy_from s out n ≡ Copied c → record_behind s n ≡ Found r
         → next_record (bytes_from s out n)
-        ≡ Next-as-Found (record { size = c.written; security_first = r.security_first; answer = r.answer })
-    go NextHead-as-End e copied f = absurd (let z : ◌≡◌ {A = ℕ} 0 1 = cc in omega arith)
-    go NextHead-as-Stop e copied f = absurd (let z : ◌≡◌ {A = ℕ} 0 1 = cc in omega arith)
+        ≡ Found (record { size = c.written; security_first = r.security_first; answer = r.answer })
+    go End e copied f = absurd (let z : ◌≡◌ {A = ℕ} 0 1 = cc in omega arith)
+    go Stop e copied f = absurd (let z : ◌≡◌ {A = ℕ} 0 1 = cc in omega arith)
     go (Found h) e copied f = behind h (section_answer h s out) e refl copied f
 
 -- the output behind an accepted section's copy, by the copy and by what the copier answers
-abbrev output_of : Bool → List ℕ → List ℕ → Output → List ℕ
-output_of first copy out (Written n) = head_bytes (record { security_first = first; length = n }) ++ over copy (drop 8 out)
-output_of first copy out (Output-as-Refused r) = out
+abbrev output_of : Bool → List ℕ → List ℕ → Result Bytes Refusal → List ℕ
+output_of first copy out (Ok n) = head_bytes (record { security_first = first; length = n }) ++ over copy (drop 8 out)
+output_of first copy out (Err r) = out
 
 accepted-output : (s out : List ℕ) (h : Head) (m : Summary) → next_head s ≡ Found h
-    → summarize h.security_first (section_behind h s) ≡ Accepted m
-    → copy_bytes s out ≡ output_of h.security_first (copy_of m (section_behind h s)) out (copy_answer (drop 8 out) (Accepted m))
+    → summarize h.security_first (section_behind h s) ≡ Ok m
+    → copy_bytes s out ≡ output_of h.security_first (copy_of m (section_behind h s)) out (copy_answer (drop 8 out) (Ok m))
 unfolding copy_bytes bytes_from bytes_behind section_answer support_answer support_bytes copy_output writer_output
 accepted-output s out h m found e =
-    ap (bytes_from s out) found ∙ go (copy_answer behind (Accepted m)) (ap (copy_answer behind) e) (ap (copy_output section behind) e)
+    ap (bytes_from s out) found ∙ go (copy_answer behind (Ok m)) (ap (copy_answer behind) e) (ap (copy_output section behind) e)
   where
     section : List ℕ
     section = section_behind h s
@@ -171,17 +168,17 @@ accepted-output s out h m found e =
     first : Bool
     first = h.security_first
 
-    go : (o : Output) → support_answer first section behind ≡ o
+    go : (o : Result Bytes Refusal) → support_answer first section behind ≡ o
         → support_bytes first section behind ≡ writer_output o (copy_of m section) behind
         → bytes_behind h section out (support_answer first section behind) ≡ output_of first (copy_of m section) out o
-    go (Written n) answer copied =
+    go (Ok n) answer copied =
         ap (bytes_behind h section out) answer
         ∙ ap (λ (x : List ℕ). head_bytes (record { security_first = first; length = n }) ++ x) copied
-    go (Output-as-Refused r) answer copied = ap (bytes_behind h section out) answer
+    go (Err r) answer copied = ap (bytes_behind h section out) answer
 
 -- of records that agree both are accepted with one summary, and their copies are the same bytes
 same : (s t out : List ℕ) (h k : Head) (m : Summary) → Octets s → Octets t → next_head s ≡ Found h → next_head t ≡ Found k
-    → h.security_first ≡ k.security_first → summarize h.security_first (section_behind h s) ≡ Accepted m
+    → h.security_first ≡ k.security_first → summarize h.security_first (section_behind h s) ≡ Ok m
     → Agrees m (section_behind h s) (section_behind k t) → copy_bytes s out ≡ copy_bytes t out
 same s t out h k m bs bt hs ht way e agrees =
     let first = h.security_first in
@@ -190,8 +187,8 @@ same s t out h k m bs bt hs ht way e agrees =
     let other = reads-accepted (agrees-reads first left m e right (octets-behind h s bs) (octets-behind k t bt) agrees) in
     let copies = (copies-agree first left m e right other).1 agrees in
     accepted-output s out h m hs e
-    ∙ ap₂ (λ (f : Bool) (copy : List ℕ). output_of f copy out (copy_answer (drop 8 out) (Accepted m))) way copies
-    ∙ sym (accepted-output t out k m ht (subst (λ (f : Bool). summarize f right ≡ Accepted m) way other))
+    ∙ ap₂ (λ (f : Bool) (copy : List ℕ). output_of f copy out (copy_answer (drop 8 out) (Ok m))) way copies
+    ∙ sym (accepted-output t out k m ht (subst (λ (f : Bool). summarize f right ≡ Ok m) way other))
 
 pub copying : Copying
 copying = record { room = λ s out h l room found e. refused s out h found l room e; listed = listed; same = same }

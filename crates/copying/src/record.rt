@@ -5,9 +5,8 @@ ghost use Rattle.copying.specs.Record.{answer_behind, bytes_behind, copy_bytes, 
 
 use octets::count::Bytes;
 use octets::over::copy;
-use records::head::{HEAD, Head, NextHead, head_bytes, next_head};
+use records::head::{HEAD, Head, Next, head_bytes, next_head};
 use rules::refusal::Refusal;
-use rules::section::Output;
 use support::copy::support_copy;
 
 // How many bytes of the file the record takes, and how many its copy takes of the output.
@@ -24,7 +23,7 @@ pub struct LeftOut {
     pub refusal: Refusal,
 }
 
-// `End` and `Stop` as of a head.
+// `End` and `Stop` as of a head. (Four cases with a meaning of their own: a `Result` of `Next` would say it in two layers.)
 #[derive(Clone, Copy)]
 pub enum CopiedRecord {
     End,
@@ -37,14 +36,11 @@ pub enum CopiedRecord {
 fn head_room(out: &[u8]) -> Bytes
     ensures { result.0 ≡ min 8 (length out.now) }
 {
-    if out.len() < HEAD {
-        return Bytes(out.len());
-    }
-    Bytes(HEAD)
+    Bytes(out.len().min(HEAD))
 }
 
 // The support copy, behind room for a head. An output without that room has none for a copy either.
-fn copy_section(section: &[u8], security_first: bool, out: &mut [u8]) -> Output
+fn copy_section(section: &[u8], security_first: bool, out: &mut [u8]) -> Result<Bytes, Refusal>
     ensures value { result ≡ support_answer security_first section.now (drop 8 out.old) }
     ensures out_after { out.new ≡ take 8 out.old ++ support_bytes security_first section.now (drop 8 out.old) }
 {
@@ -63,8 +59,8 @@ fn copy_behind(head: Head, section: &[u8], out: &mut [u8]) -> CopiedRecord
     let size = Bytes(HEAD + head.length.0);
     let security_first = head.security_first;
     match copy_section(section, security_first, out) {
-        Output::Refused(refusal) => CopiedRecord::Refused(LeftOut { size, refusal }),
-        Output::Written(length) => {
+        Err(refusal) => CopiedRecord::Refused(LeftOut { size, refusal }),
+        Ok(length) => {
             let bytes = head_bytes(Head {
                 security_first,
                 length,
@@ -80,14 +76,15 @@ fn copy_behind(head: Head, section: &[u8], out: &mut [u8]) -> CopiedRecord
 
 // The record at the first byte of `s`, the rest of a day's file, into a lent output: its head with the copy's length,
 // and the copy. Bytes behind the section in its record do not go out. Where nothing is copied the output stays as it is.
+#[tactic(auto, unfolding(crate::specs::Record::copy_record, crate::specs::Record::copy_bytes, crate::specs::Record::copy_from, crate::specs::Record::bytes_from))]
 pub fn copy_record(s: &[u8], out: &mut [u8]) -> CopiedRecord
     ensures value { result ≡ copy_record s.now out.old }
     ensures out_after { out.new ≡ copy_bytes s.now out.old }
 {
     match next_head(s) {
-        NextHead::End => CopiedRecord::End,
-        NextHead::Stop => CopiedRecord::Stop,
-        NextHead::Found(head) => {
+        Next::End => CopiedRecord::End,
+        Next::Stop => CopiedRecord::Stop,
+        Next::Found(head) => {
             let end = HEAD + head.length.0;
             copy_behind(head, &s[HEAD..end], out)
         }

@@ -5,39 +5,39 @@ ghost use Rattle.std.specs.Prelude.{◌≡◌, length};
 ghost use Rattle.days.specs.Day.{day_answer, day_table, records_of};
 ghost use Rattle.day_reader.specs.Answer.{answered};
 
-use days::answer::{DayRead, DayRefusal, Records};
-use days::slot::VALUES;
+use days::answer::{DayRefusal, Records};
+use days::slot::Slot;
 use days::table::read_day;
 
 #[repr(C)]
-#[derive(Clone, Copy)]
+#[derive(Clone, Copy, Default)]
 pub struct UgbDay {
     pub refusal: DayRefusal,
     pub records: Records,
 }
 
-fn day_answer(read: DayRead) -> UgbDay
-    ensures { result ≡ answered read }
-{
-    match read {
-        DayRead::Refused(refusal) => UgbDay {
-            refusal,
-            records: Records(0),
-        },
-        DayRead::Read(records) => UgbDay {
-            refusal: DayRefusal {
-                number: 0,
-                place: Records(0),
+impl From<Result<Records, DayRefusal>> for UgbDay {
+    #[tactic(auto, unfolding(crate::specs::Answer::answered))]
+    fn from(read: Result<Records, DayRefusal>) -> Self
+        ensures { result ≡ answered read }
+    {
+        match read {
+            Err(refusal) => UgbDay {
+                refusal,
+                ..UgbDay::default()
             },
-            records,
-        },
+            Ok(records) => UgbDay {
+                records,
+                ..UgbDay::default()
+            },
+        }
     }
 }
 
 #[unsafe(no_mangle)]
-pub extern "C" fn ugb_read_day(file: &[u8], table: &mut [[usize; VALUES]]) -> UgbDay
+pub extern "C" fn ugb_read_day(file: &[u8], table: &mut [Slot]) -> UgbDay
     ensures value { result ≡ answered (day_answer (records_of file.now) (length table.old)) }
     ensures table_after { table.new ≡ day_table (records_of file.now) table.old }
 {
-    day_answer(read_day(file, table))
+    UgbDay::from(read_day(file, table))
 }

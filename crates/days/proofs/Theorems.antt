@@ -1,5 +1,6 @@
 -- The statements, from the records of a file by its first one, and from what an answer tells.
 use Prim.Native.Nat.{ℕ, ◌+◌, ◌*◌, ◌≤◌}
+use Rattle.records.specs.declared.head.Next.TheVariants.{Found}
 use mathlib.Core.Path.{◌≡◌, refl, sym, ap, ap₂, ◌∙◌}
 use mathlib.Core.Bool.{Bool, true, false}
 use mathlib.Core.Logic.{inr, ⊎_elim}
@@ -15,8 +16,8 @@ use Rattle.records.specs.Line.{header_line}
 use Rattle.records.specs.Listing.{listing}
 use Rattle.records.specs.Record.{answer_of, next_record, record_behind, record_of}
 use Rattle.records.specs.declared.head.Head.{Head}
-use Rattle.records.specs.declared.record.Next.TheVariants.{Found}
 use Rattle.records.proofs.Laws.Head.{head_read, length-head}
+use Rattle.days.specs.declared.slot.Slot.{Slot}
 use Rattle.days.specs.Day.{DayRecords, day_answer, day_table, fills, read, records_at, records_of, refused, slots_of}
 use Rattle.days.specs.Theorems.{Called, Fit, Held, OneCall, alone, answer, file_of, filled, lines_in}
 use Rattle.days.proofs.Laws.Answer.{answer-bad, answer-many, answer-read, day-many, fills-room}
@@ -65,11 +66,11 @@ answers (x ∷ xs) rest fit =
     record-read x (file_of xs rest) fit.0
     ∙ ap (λ (d : DayRecords). record { answers = alone x ∷ d.answers; stops = d.stops }) (answers xs rest fit.1)
 
-nothing : (file : List ℕ) (table : List (List ℕ)) → answer file table ≡ refused 16 0 → filled file table ≡ table
+nothing : (file : List ℕ) (table : List Slot) → answer file table ≡ refused 16 0 → filled file table ≡ table
 unfolding day_table fills
 nothing file table e = rw (ap fills e)
 
-module _ (file : List ℕ) (table : List (List ℕ)) where
+module _ (file : List ℕ) (table : List Slot) where
   abbrev d : DayRecords
   d = records_of file
 

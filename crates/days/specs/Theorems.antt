@@ -1,15 +1,18 @@
 -- C-15: what holds of a day's file that is read in a single call.
-use Rattle.std.specs.Prelude.{ℕ, suc, ◌+◌, ◌*◌, ◌<◌, ◌≤◌, ◌≡◌, Bool, ◌⊎◌, ◌↔◌, List, [], ◌∷◌, ◌++◌, map, length, get_or, take, drop}
+use Rattle.std.specs.Prelude.{Result, ℕ, suc, ◌+◌, ◌*◌, ◌<◌, ◌≤◌, ◌≡◌, Bool, ◌⊎◌, ◌↔◌, List, [], ◌∷◌, ◌++◌, map, length, take, drop}
+use Rattle.days.specs.declared.answer.DayRefusal.{DayRefusal}
+use Rattle.days.specs.declared.answer.Records.{Records}
+use Rattle.records.specs.declared.record.Line.{Line}
+use Rattle.rules.specs.declared.refusal.Refusal.{Refusal}
 use Rattle.rules.specs.Reading.{summarize}
 use Rattle.rules.specs.Refusal.{bytes}
 use Rattle.records.specs.Head.{head_bytes}
 use Rattle.records.specs.Line.{end_line, header_line, line_bytes, stop_line}
 use Rattle.records.specs.Listing.{listing}
 use Rattle.records.specs.Record.{answer_of}
-use Rattle.records.specs.declared.record.Answer.{Answer}
 use Rattle.days.specs.Day.{day_answer, day_table, read, records_of, refused}
 use Rattle.days.specs.Slot.{answer_in, slot_of}
-use Rattle.days.specs.declared.answer.DayRead.{DayRead}
+use Rattle.days.specs.declared.slot.Slot.{Slot}
 
 -- what a record holds: whether a SecurityHeader stands first, and the section
 pub record Held : Type 0 where
@@ -28,20 +31,20 @@ Fit [] = Unit {0}
 Fit (x ∷ xs) = (length x.section ≤ 32768) × Fit xs
 
 -- "reading each alone"
-abbrev pub alone : Held → Answer
+abbrev pub alone : Held → Result Line Refusal
 alone x = answer_of (summarize x.first x.section)
 
 -- the listing's lines for the answers in these slots, the first of which has this number
-unfoldable pub lines_in : ℕ → List (List ℕ) → List ℕ
+unfoldable pub lines_in : ℕ → List Slot → List ℕ
 lines_in number [] = []
 lines_in number (slot ∷ slots) = line_bytes number (answer_in slot) ++ lines_in (suc number) slots
 
 -- of a file and a table
-module _ (file : List ℕ) (table : List (List ℕ)) where
-  abbrev pub answer : DayRead
+module _ (file : List ℕ) (table : List Slot) where
+  abbrev pub answer : Result Records DayRefusal
   answer = day_answer (records_of file) (length table)
 
-  abbrev pub filled : List (List ℕ)
+  abbrev pub filled : List Slot
   filled = day_table (records_of file) table
 
   pub record Called : Type 0 where
@@ -65,5 +68,5 @@ pub record OneCall : Type 0 where
       → records_of (file_of xs rest) ≡ record { answers = map alone xs ++ (records_of rest).answers; stops = (records_of rest).stops }
   -- a slot holds its answer whole, and is not all zero: there is a number, or a section's length
   pub told : (x : Held) → answer_in (slot_of (alone x)) ≡ alone x
-  pub some : (x : Held) → (0 < get_or (slot_of (alone x)) 0 0) ⊎ (56 ≤ get_or (slot_of (alone x)) 6 0)
-  pub called : (file : List ℕ) (table : List (List ℕ)) → Called file table
+  pub some : (x : Held) → (0 < (slot_of (alone x)).number) ⊎ (56 ≤ (slot_of (alone x)).section_length.0)
+  pub called : (file : List ℕ) (table : List Slot) → Called file table

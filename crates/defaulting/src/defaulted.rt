@@ -1,121 +1,74 @@
 // The one function that makes the defaulted properties of a send request.
 ghost use Rattle.std.specs.Prelude.{◌≡◌};
-ghost use Rattle.requests.specs.Defaults.{correlation_of, handling_of, properties_of, sender_of};
+ghost use Rattle.requests.specs.Defaults.{handling_of, properties, sender_of};
 ghost use Rattle.requests.specs.Request.{send_request};
 ghost use Rattle.requests.specs.Steps.{defaulted};
 
 use crate::steps::request_steps;
-use requests::properties::{
-    Defaulted, Handling, HandlingValues, Privacy, Properties, ProviderType, Sender, SenderValues,
-};
-use requests::request::{Correlation, Request};
-use requests::section::{allocation_of, body_size};
-use requests::signature::kept_bytes;
+use requests::properties::{HandlingValues, Privacy, Properties, SenderValues};
+use requests::request::{Request, RequestGiven};
 use requests::text::kept_units;
-use requests::values;
-use rules::refusal::Checked;
-use rules::section::CorrelationId;
+use rules::refusal::Refusal;
 
-// The CorrelationID, or 20 zero bytes where it is absent.
-pub fn correlation_of(request: Request, given: CorrelationId) -> CorrelationId
-    ensures { result ≡ correlation_of request given }
+#[tactic(auto, unfolding(requests::specs::Defaults::handling_of))]
+fn handling_of(request: &Request) -> Option<HandlingValues>
+    ensures { result ≡ handling_of request.now }
 {
-    let correlation = request.correlation;
-    match correlation {
-        Correlation::Absent => [0u8; 20],
-        Correlation::Given => given,
-    }
-}
-
-fn handling_of(request: Request) -> Handling
-    ensures { result ≡ handling_of request }
-{
-    let split_number = request.split_number;
-    Handling::Known(HandlingValues {
-        priority: values::priority(request),
-        trace: values::trace(request),
-        delivery: values::delivery(request),
-        auditing: values::auditing(request),
+    Some(HandlingValues {
+        priority: request.priority(),
+        trace: request.trace.unwrap_or(0),
+        delivery: request.delivery(),
+        auditing: request.auditing.unwrap_or(0),
         transaction: request.transaction,
         direct_queue: request.direct_queue,
-        split_number,
+        split_number: request.split_number,
         provider_name_length: request.provider_name_length,
-        time_to_queue: values::time_to_queue(request),
-        time_to_live: values::time_to_live(request),
+        time_to_queue: request.time_to_queue(),
+        time_to_live: request.time_to_live(),
     })
 }
 
-fn sender_of(request: Request, encryption_key: &[u8]) -> Sender
-    ensures { result ≡ sender_of request encryption_key.now }
+#[tactic(auto, unfolding(requests::specs::Defaults::sender_of))]
+fn sender_of(given: &RequestGiven<'_>) -> Option<SenderValues>
+    ensures { result ≡ sender_of given.now.request given.now.encryption_key.now }
 {
-    Sender::Known(SenderValues {
-        kind: values::sender_kind(request),
-        default_provider: request.default_provider,
-        encryption: values::encryption(request, encryption_key),
+    Some(SenderValues {
+        kind: given.request.sender_kind.unwrap_or(0),
+        default_provider: given.request.default_provider,
+        encryption: given.encryption(),
     })
 }
 
-fn properties_of(
-    request: Request,
-    title: &[u16],
-    encryption_key: &[u8],
-    signature: &[u8],
-    body: &[u8],
-) -> Properties
-    ensures { result ≡ properties_of request title.now encryption_key.now
-        signature.now body.now }
+#[tactic(auto, unfolding(requests::specs::Defaults::properties_of))]
+fn properties_of(given: &RequestGiven<'_>) -> Properties
+    ensures { result ≡ properties (send_request given.now) }
 {
+    let request = &given.request;
     Properties {
         handling: handling_of(request),
-        sender: sender_of(request, encryption_key),
-        provider_type: ProviderType::Known(values::provider_type(request)),
-        message_class: values::message_class(request),
-        acknowledge: values::acknowledge(request),
-        application_tag: values::application_tag(request),
-        privacy_level: Privacy::Request(values::privacy_level(request)),
-        hash_algorithm: values::hash_algorithm(request),
-        encryption_algorithm: values::encryption_algorithm(request),
-        body_type: values::body_type(request),
-        message_size: body_size(request, body),
-        allocation_body_size: allocation_of(request),
-        title: kept_units(title),
-        signature: kept_bytes(request, signature),
+        sender: sender_of(given),
+        provider_type: Some(request.provider_type.unwrap_or(0)),
+        message_class: request.message_class.unwrap_or(0),
+        acknowledge: request.acknowledge.unwrap_or(0),
+        application_tag: request.application_tag.unwrap_or(0),
+        privacy_level: Privacy::Request(request.privacy_level.unwrap_or(0)),
+        hash_algorithm: request.hash_algorithm.unwrap_or(0),
+        encryption_algorithm: request.encryption_algorithm.unwrap_or(0),
+        body_type: request.body_type.unwrap_or(0),
+        message_size: given.body_size(),
+        allocation_body_size: request.allocation(),
+        title: kept_units(given.title),
+        signature: given.kept_bytes(),
     }
 }
 
 // The defaulted properties, or the refusal of the first step that fails. The output's step is left to the sender.
-pub fn defaulted(
-    request: Request,
-    title: &[u16],
-    sender_id: &[u8],
-    encryption_key: &[u8],
-    signature: &[u8],
-    sender_cert: &[u8],
-    provider_name: &[u16],
-    extension: &[u8],
-    body: &[u8],
-) -> Defaulted
-    ensures { result ≡ defaulted (send_request request title sender_id encryption_key
-        signature sender_cert provider_name extension body) }
+#[tactic(auto, unfolding(requests::specs::Steps::defaulted, requests::specs::Steps::answer_of, requests::specs::Steps::refused_by))]
+pub fn defaulted(given: &RequestGiven<'_>) -> Result<Properties, Refusal>
+    ensures { result ≡ defaulted (send_request given.now) }
 {
-    match request_steps(
-        request,
-        title,
-        sender_id,
-        encryption_key,
-        signature,
-        sender_cert,
-        provider_name,
-        extension,
-        body,
-    ) {
-        Checked::Refused(r) => Defaulted::Refused(r),
-        Checked::Passed => Defaulted::Properties(properties_of(
-            request,
-            title,
-            encryption_key,
-            signature,
-            body,
-        )),
+    match request_steps(given) {
+        Err(cause) => Err(Refusal::at_start(cause)),
+        Ok(()) => Ok(properties_of(given)),
     }
 }

@@ -5,28 +5,21 @@ ghost use Rattle.octets.specs.Text.{units};
 ghost use Rattle.display.specs.Shown.{is_plain, shown, shown_unit};
 
 use crate::hex::put_hex;
-use octets::count::{Bytes, smaller};
+use octets::count::Bytes;
 use octets::number::u16_at;
 
+const QUOTE: u16 = 34;
+
+const BACKSLASH: u16 = 92;
+
+#[tactic(auto, unfolding(crate::specs::Shown::is_plain))]
 fn is_plain(u: u16) -> bool
     ensures { result ≡ is_plain u }
 {
-    if 127 <= u {
-        return false;
-    }
-    if u <= 31 {
-        return false;
-    }
-    if u == 34 {
-        return false;
-    }
-    if u == 92 {
-        return false;
-    }
-    true
+    matches!(u, 32..=126) && u != QUOTE && u != BACKSLASH
 }
 
-// Answers where the next unit begins.
+// Answers where the next unit begins. (On the rest of the output the caller would carry that and how much is written.)
 fn put_unit(u: u16, out: &mut [u8], at: Bytes) -> Bytes
     requires { at.0 + 6 ≤ length out.old }
     ensures result_value { result.0 ≡ at.0 + length (shown_unit u) }
@@ -38,8 +31,8 @@ fn put_unit(u: u16, out: &mut [u8], at: Bytes) -> Bytes
         out[i] = u as u8;
         return Bytes(i + 1);
     }
-    out[i] = 92;
-    out[i + 1] = 117;
+    out[i] = b'\\';
+    out[i + 1] = b'u';
     let bytes = [(u / 256) as u8, (u % 256) as u8];
     put_hex(&bytes, &mut out[i + 2..]);
     Bytes(i + 6)
@@ -58,13 +51,11 @@ pub fn put_shown(s: &[u8], out: &mut [u8]) -> Shown
     ensures length_value { result.length.0 ≡ length (shown (units (take result.taken.0 s.now))) }
     ensures out_after { out.new ≡ over (shown (units (take result.taken.0 s.now))) out.old }
 {
-    // A unit is two bytes of the text and at most six of the output: three for a byte.
-    let n = smaller(Bytes(s.len()), Bytes(out.len() / 3)).0 / 2;
+    // (By index, as `put_hex`.) A unit is two bytes of the text and at most six of the output: three for a byte.
+    let n = s.len().min(out.len() / 3) / 2;
     let mut at = Bytes(0);
-    let mut i = 0;
-    while i < n {
+    for i in 0..n {
         at = put_unit(u16_at(s, Bytes(2 * i)), out, at);
-        i += 1;
     }
     Shown {
         taken: Bytes(2 * n),

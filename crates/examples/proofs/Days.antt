@@ -16,7 +16,7 @@ use Rattle.records.specs.Head.{next_head, section_behind, section_size}
 use Rattle.records.specs.Record.{answer_of, next_record, record_behind}
 use Rattle.days.specs.Day.{counted, day_answer, day_table, fills, records_at, records_from, records_of, slots_of, too_many}
 use Rattle.days.specs.Slot.{accepted_slot, refused_slot, slot_of}
-use Rattle.examples.specs.Days.{DayExample, answer_told, cut, days, first_slot, kept, short_slot, two}
+use Rattle.examples.specs.Days.{DayExample, answer_told, cut, days, first_slot, kept, lent_slot, numbers_in, short_slot, two}
 use Rattle.examples.specs.Inputs.{properties, record_of}
 use Rattle.examples.specs.Listings.{first_record}
 
@@ -26,5 +26,5 @@ unfolding le to_le over padded padding within is_text last_only units classes li
     properties_place properties_refusal section_refusal properties_number security_header security_number start_at summarize
     summary_at first_of no_security summary_of answer_of next_record record_behind next_head section_behind section_size counted
     day_answer day_table fills records_at records_from records_of slots_of too_many accepted_slot refused_slot slot_of answer_told
-    cut days first_slot kept short_slot two properties record_of first_record
+    cut days first_slot kept lent_slot numbers_in short_slot two properties record_of first_record
 days-hold = refl

@@ -20,8 +20,7 @@ use Rattle.writing.specs.Writing.{padded_part, properties_bytes, properties_fixe
 use Rattle.queues.specs.Format.{flags, pair_passes, suffix}
 use Rattle.queues.specs.Read.{format_of, image_from, image_of, image_steps, part_at, read_image}
 use Rattle.queues.specs.Steps.{fixed_size, format_steps, is_string, string_step, value_steps}
-use Rattle.requests.specs.Defaults.{allocation_or, before_zero, body_or, correlation_or, encryption, properties_of, sender_of, signature_count, signature_of, title_of}
-use Rattle.requests.specs.Request.{is_given, value_or}
+use Rattle.requests.specs.Defaults.{before_zero, body_or, encryption, properties_of, sender_of, signature_count, signature_of, title_of}
 use Rattle.requests.specs.Section.{label_with, packet_privacy, properties_at, properties_fields_of, provider_info, section_length, security_fields_of, security_first, security_flags}
 use Rattle.requests.specs.Steps.{algorithm_missing, allocation_fails, answer_of, defaulted, direct_privacy, first_failure, from25, hash_missing, identity_fails, out_of_range, provider_fails, request_steps, retired_request, split_fails, steps, too_large, up_to24}
 use Rattle.sending.specs.Send.{answer_after, given_by, send_answer, send_bytes, values_of}
@@ -36,9 +35,9 @@ unfolding le to_le padded padding within break_at first_break first_zero is_text
     field_bytes row_bytes all_empty cert_at identity_head identity_size key_at provider_at provider_size provider_text
     read_security security_contents security_fields security_length security_parts security_steps signature_at no_security
     summary_of properties_from padded_part properties_bytes properties_fixed section_bytes flags pair_passes suffix format_of
-    image_from image_of image_steps part_at read_image fixed_size format_steps is_string string_step value_steps allocation_or
-    before_zero body_or correlation_or encryption properties_of sender_of signature_count signature_of title_of is_given
-    value_or label_with packet_privacy properties_at properties_fields_of provider_info section_length security_fields_of
+    image_from image_of image_steps part_at read_image fixed_size format_steps is_string string_step value_steps
+    before_zero body_or encryption properties_of sender_of signature_count signature_of title_of
+    label_with packet_privacy properties_at properties_fields_of provider_info section_length security_fields_of
     security_first security_flags algorithm_missing allocation_fails answer_of defaulted direct_privacy first_failure
     hash_missing from25 identity_fails out_of_range provider_fails request_steps retired_hashes retired_request split_fails
     steps too_large up_to24 answer_after given_by send_answer send_bytes writer_answer writer_output over values_of examples

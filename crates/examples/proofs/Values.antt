@@ -15,7 +15,7 @@ use Rattle.rules.specs.Security.{all_empty, cert_at, identity_head, identity_siz
 use Rattle.rules.specs.Security.{security_contents, security_fields, security_length, security_parts, security_steps, signature_at}
 use Rattle.rules.specs.Summary.{no_security, summary_of}
 use Rattle.values.specs.Read.{read_value, section_value, value_steps, value_where}
-use Rattle.values.specs.Value.{binary32_bits, binary32_of, binary64_bits, binary64_of, bits_of, body_type, body_types, signed, signed_bits, size_of, value_from}
+use Rattle.values.specs.Value.{binary_bits, binary_of, bits_of, body_type, body_types, signed, signed_bits, size_of, value_from}
 use Rattle.values.specs.Write.{value_bytes}
 use Rattle.examples.specs.Inputs.{security}
 use Rattle.examples.specs.Values.{ValueExample, behind, values, written_again}
@@ -27,6 +27,6 @@ unfolding le to_le padded padding within is_text classes listed properties_place
     properties_steps read_properties fields_at header_at judge properties_number security_header security_number start_at summarize
     summary_at first_of all_empty cert_at identity_head identity_size key_at provider_at provider_size provider_text read_security
     security_contents security_fields security_length security_parts security_steps signature_at no_security summary_of read_value
-    section_value value_steps value_where binary32_bits binary32_of binary64_bits binary64_of bits_of body_type body_types signed
+    section_value value_steps value_where binary_bits binary_of bits_of body_type body_types signed
     signed_bits size_of value_from value_bytes nan_bits odd of_bits of_fields to_bits security behind values written_again
 values-hold = (refl, refl)

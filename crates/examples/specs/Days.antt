@@ -1,30 +1,49 @@
 -- C-15: 01's listing example and its like, read in a single call.
-use Rattle.std.specs.Prelude.{ℕ, List, [], ◌∷◌, ◌++◌, length, replicate}
+use Rattle.std.specs.Prelude.{Err, Ok, Result, ℕ, List, [], ◌∷◌, ◌++◌, length, map, replicate}
+use Rattle.rules.specs.Refusal.{bytes}
+use Rattle.days.specs.declared.answer.DayRefusal.{DayRefusal}
+use Rattle.days.specs.declared.answer.Records.{Records}
+use Rattle.days.specs.declared.slot.Slot.{Slot}
 use Rattle.days.specs.Day.{day_answer, day_table, records_of}
-use Rattle.days.specs.declared.answer.DayRead.{DayRead}
-use Rattle.days.specs.declared.answer.DayRead.TheVariants.{Read, Refused}
 use Rattle.examples.specs.Inputs.{properties, record_of}
 use Rattle.examples.specs.Listings.{first_record}
 
 -- what a call tells: 1 and the number of records, or 0, number and place; then the slots of the table
-unfoldable pub answer_told : DayRead → List ℕ
-answer_told (Read n) = 1 ∷ n.0 ∷ []
-answer_told (Refused r) = 0 ∷ r.number ∷ r.place.0 ∷ []
+unfoldable pub answer_told : Result Records DayRefusal → List ℕ
+answer_told (Ok n) = 1 ∷ n.0 ∷ []
+answer_told (Err r) = 0 ∷ r.number ∷ r.place.0 ∷ []
 
 pub record DayExample : Type 0 where
   pub told : List (List ℕ)
   pub expected : List (List ℕ)
 
+-- a slot's seven numbers, in their order
+unfoldable pub numbers_in : Slot → List ℕ
+numbers_in x =
+    x.number ∷ x.place.0 ∷ x.message_class ∷ x.label_length ∷ x.extension_size.0 ∷ x.message_size.0 ∷ x.section_length.0 ∷ []
+
 -- a slot as it was
+unfoldable pub lent_slot : Slot
+lent_slot =
+    record {
+      number = 9;
+      place = bytes 9;
+      message_class = 9;
+      label_length = 9;
+      extension_size = bytes 9;
+      message_size = bytes 9;
+      section_length = bytes 9;
+    }
+
 unfoldable pub kept : List ℕ
 kept = replicate 7 9
 
 -- a file read into a table of so many slots
 abbrev pub gives : List ℕ → ℕ → List ℕ → List (List ℕ) → DayExample
 gives file slots answer table =
-    let lent = replicate slots kept in
+    let lent = replicate slots lent_slot in
     record {
-      told = answer_told (day_answer (records_of file) (length lent)) ∷ day_table (records_of file) lent;
+      told = answer_told (day_answer (records_of file) (length lent)) ∷ map numbers_in (day_table (records_of file) lent);
       expected = answer ∷ table;
     }
 

@@ -1,13 +1,11 @@
 -- 01, "Examples to hold against it": the starred ones, one list in 01's order.
-use Rattle.std.specs.Prelude.{ℕ, ◌+◌, true, false, List, [], ◌∷◌, ◌++◌, replicate}
+use Rattle.std.specs.Prelude.{Err, Ok, Result, ℕ, ◌+◌, true, false, List, [], ◌∷◌, ◌++◌, replicate}
+use Rattle.queues.specs.declared.image.Image.{Image}
+use Rattle.rules.specs.declared.section.Summary.{Summary}
 use Rattle.rules.specs.Reading.{summarize}
 use Rattle.rules.specs.declared.refusal.Refusal.{Refusal}
 use Rattle.rules.specs.declared.section.Part.{Part}
-use Rattle.rules.specs.declared.section.Summarized.{Summarized}
-use Rattle.rules.specs.declared.section.Summarized.TheVariants.{Accepted, Refused}
 use Rattle.queues.specs.Read.{read_image}
-use Rattle.queues.specs.declared.image.ImageRead.{ImageRead}
-use Rattle.queues.specs.declared.image.ImageRead.TheVariants.{Accepted as Image-as-Accepted, Refused as Image-as-Refused}
 use Rattle.sending.specs.Send.{send_bytes}
 use Rattle.examples.specs.Inputs.{image, properties, security, text, titled}
 
@@ -19,9 +17,9 @@ abbrev pub start : Part → ℕ
 start p = p.start.0
 
 -- Of a section 1, then where key, signature, certificate, provider info, the MessagePropertiesHeader, label, extension and body begin, where the body ends, and the section's length.
-unfoldable pub section_told : Summarized → List ℕ
-section_told (Refused r) = refusal_told r
-section_told (Accepted m) =
+unfoldable pub section_told : Result Summary Refusal → List ℕ
+section_told (Err r) = refusal_told r
+section_told (Ok m) =
     1 ∷ start m.security.parts.encryption_key
     ∷ start m.security.parts.signature
     ∷ start m.security.parts.sender_cert
@@ -35,14 +33,14 @@ section_told (Accepted m) =
     ∷ []
 
 -- Of an image 1.
-unfoldable pub image_told : ImageRead → List ℕ
-image_told (Image-as-Refused r) = refusal_told r
-image_told (Image-as-Accepted i) = 1 ∷ []
+unfoldable pub image_told : Result Image Refusal → List ℕ
+image_told (Err r) = refusal_told r
+image_told (Ok i) = 1 ∷ []
 
 -- Of a label 1, and LabelLength.
-unfoldable pub label_told : Summarized → List ℕ
-label_told (Refused r) = refusal_told r
-label_told (Accepted m) = 1 ∷ m.properties.label_length.0 ∷ []
+unfoldable pub label_told : Result Summary Refusal → List ℕ
+label_told (Err r) = refusal_told r
+label_told (Ok m) = 1 ∷ m.properties.label_length.0 ∷ []
 
 -- what the definitions tell, and what 01 says
 pub record Example : Type 0 where
@@ -80,7 +78,7 @@ pair type byte expected = record { told = image_told (read_image (image type byt
 abbrev pub title : ℕ → ℕ → Example
 title units label_length =
     record {
-      told = label_told (summarize false (send_bytes (titled (replicate units 1)) (replicate 20 0) (replicate 600 0)));
+      told = label_told (summarize false (send_bytes (titled (replicate units 1)) (replicate 600 0)));
       expected = 1 ∷ label_length ∷ [];
     }
 

@@ -1,12 +1,9 @@
 -- The inputs that 01's examples describe. Content that 01 leaves open passes S10, S11, P7 and a queue format's value.
-use Rattle.std.specs.Prelude.{ℕ, zero, suc, false, cond, List, [], ◌∷◌, ◌++◌, length, replicate}
+use Rattle.std.specs.Prelude.{None, ℕ, zero, suc, false, cond, List, [], ◌∷◌, ◌++◌, length, replicate}
 use Rattle.octets.specs.Number.{to_le}
 use Rattle.rules.specs.Listed.{listed}
 use Rattle.queues.specs.Steps.{fixed_size}
 use Rattle.requests.specs.Request.{SendRequest}
-use Rattle.requests.specs.declared.request.Body.TheVariants.{Absent as Body-as-Absent}
-use Rattle.requests.specs.declared.request.Correlation.TheVariants.{Absent as Correlation-as-Absent}
-use Rattle.requests.specs.declared.request.Number.TheVariants.{Absent}
 use Rattle.requests.specs.declared.request.Request.{Request}
 
 -- a MessagePropertiesHeader with these fields, all others 0, and what follows its fixed bytes
@@ -56,25 +53,25 @@ image type byte =
 unfoldable pub nothing_given : Request
 nothing_given =
     record {
-      priority = Absent;
-      trace = Absent;
-      delivery = Absent;
-      auditing = Absent;
-      message_class = Absent;
-      acknowledge = Absent;
-      application_tag = Absent;
-      privacy_level = Absent;
-      hash_algorithm = Absent;
-      encryption_algorithm = Absent;
-      body_type = Absent;
-      sender_kind = Absent;
-      provider_type = Absent;
-      split_number = Absent;
+      priority = None;
+      trace = None;
+      delivery = None;
+      auditing = None;
+      message_class = None;
+      acknowledge = None;
+      application_tag = None;
+      privacy_level = None;
+      hash_algorithm = None;
+      encryption_algorithm = None;
+      body_type = None;
+      sender_kind = None;
+      provider_type = None;
+      split_number = None;
       provider_name_length = 0;
       time_to_queue = 0;
       time_to_live = 0;
-      correlation = Correlation-as-Absent;
-      body = Body-as-Absent;
+      correlation_id = None;
+      body = None;
       transaction = false;
       direct_queue = false;
       default_provider = false;

@@ -15,7 +15,8 @@ use Rattle.octets.proofs.Laws.Text.{length-units}
 use Rattle.rules.specs.Listed.{listed}
 use Rattle.rules.specs.Place.{header_refusal, name_break, properties_place, properties_refusal, security_place, security_refusal}
 use Rattle.rules.specs.Properties.{label_bytes, properties_fields, properties_length, properties_parts, properties_row}
-use Rattle.rules.specs.Reading.{base_judge, fields_at, header_at, judge, label_at, properties_number, provider_info_at, security_header, security_number, start_at}
+use Rattle.rules.specs.Reading.{base_judge, fields_at, header_at, judge, label_at, properties_number, provider_info_at, security_header}
+use Rattle.rules.specs.Reading.{security_number, start_at}
 use Rattle.rules.specs.Refusal.{refusal}
 use Rattle.rules.specs.Row.{width}
 use Rattle.rules.specs.Security.{DP, cert_at, key_at, provider_at, security_fields, security_length, security_parts, security_row, signature_at}

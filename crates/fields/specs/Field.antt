@@ -1,6 +1,7 @@
 -- Which field or part of a section holds the byte at a place: by its number in the order of the bytes, from 1.
-use Rattle.std.specs.Prelude.{ℕ, suc, ◌+◌, ◌-◌, min, Bool, ◌&&◌, ◌||◌, cond, List, [], ◌∷◌, ◌++◌, length, eqb, leb, ltb}
+use Rattle.std.specs.Prelude.{ℕ, suc, ◌+◌, ◌-◌, min, Bool, ◌&&◌, ◌||◌, cond, List, [], ◌∷◌, ◌++◌, length, map, eqb, leb, ltb}
 use Rattle.octets.specs.Padding.{padding}
+use Rattle.octets.specs.declared.count.Bytes.{Bytes}
 use Rattle.rules.specs.Properties.{label_bytes, properties_row}
 use Rattle.rules.specs.Refusal.{bytes}
 use Rattle.rules.specs.Row.{Field, width}
@@ -13,6 +14,10 @@ use Rattle.fields.specs.declared.field.FieldAt.{FieldAt}
 
 abbrev pub field : ℕ → ℕ → FieldAt
 field number offset = record { field = number; offset = bytes offset }
+
+-- how many bytes each is
+abbrev pub counts : List Bytes → List ℕ
+counts widths = map (λ b. b.0) widths
 
 -- how many bytes each field of a row takes
 unfoldable pub widths : {F : Type 0} → List (Field F) → List ℕ

@@ -1,12 +1,32 @@
 // The fields and parts of a section, by number in the order of their bytes; then the two headers.
+ghost use Rattle.std.specs.Prelude.{◌≡◌};
+ghost use Rattle.fields.specs.Field.{field};
+
 use octets::count::Bytes;
 
-// The field that holds a byte, and the byte's offset in it.
+// The field that holds a byte, and the byte's offset in it. (C has both as they are, so the field is a number.)
 #[repr(C)]
 #[derive(Clone, Copy)]
 pub struct FieldAt {
     pub field: u32,
     pub offset: Bytes,
+}
+
+impl FieldAt {
+    pub(crate) fn new(number: u32, offset: Bytes) -> Self
+        ensures { result ≡ field number offset.0 }
+    {
+        FieldAt {
+            field: number,
+            offset,
+        }
+    }
+
+    pub(crate) fn none() -> Self
+        ensures { result ≡ field 0 0 }
+    {
+        FieldAt::new(NONE, Bytes(0))
+    }
 }
 
 // Where there is no such byte.

@@ -1,83 +1,61 @@
 // Standard output by way of a page, so that few writes are made.
-ghost use Rattle.std.specs.Prelude.{◌≤◌, ◌≡◌, length};
+ghost use Rattle.std.specs.Prelude.{◌≡◌, ◌≤◌};
 
 use octets::count::Bytes;
-use octets::over::copy;
-use octets::part::within;
+use std::fmt;
 use streams::buffer::large_buffer;
-use streams::output::put;
+use streams::output::{put, put_first};
 use streams::streams::Standard;
 
-// The bytes that wait to be written, and where they go.
+// The first `used` bytes wait to be written, in fixed memory: std's `BufWriter` allocates. Once a write has failed, nothing more is written.
 #[derive(Drop)]
 pub(crate) struct Page {
     bytes: [u8; 65536],
+    used: usize,
+    has_failed: bool,
     streams: Standard,
+    ghost fits: { used ≤ 65536 },
 }
 
-pub(crate) fn empty_page(streams: Standard) -> Page {
-    Page {
-        bytes: large_buffer(),
-        streams,
+impl Page {
+    pub(crate) fn empty(streams: Standard) -> Page {
+        Page {
+            bytes: large_buffer(),
+            used: 0,
+            has_failed: false,
+            streams,
+        }
+    }
+
+    // Writes what waits.
+    pub(crate) fn flush(&mut self)
+        ensures { self.new.used ≡ 0 }
+    {
+        let waiting = Bytes(self.used);
+        self.has_failed = self.has_failed || !put_first(&mut self.streams, &self.bytes, waiting);
+        self.used = 0;
+    }
+
+    // Puts some bytes behind what waits. What is longer than a page is written at once.
+    pub(crate) fn piece(&mut self, bytes: &[u8]) {
+        if 65536 - self.used < bytes.len() {
+            self.flush();
+        }
+        if 65536 < bytes.len() {
+            self.has_failed = self.has_failed || !put(&mut self.streams, bytes);
+            return;
+        }
+        let start = self.used;
+        let end = start + bytes.len();
+        self.bytes[start..end].copy_from_slice(bytes);
+        self.used = end;
     }
 }
 
-// The page's first `used` bytes wait to be written. Once a write has failed, nothing more is written.
-#[derive(Clone, Copy)]
-pub(crate) struct Held {
-    pub used: Bytes,
-    pub is_failed: bool,
-}
-
-// Writes it, where no write has failed, and answers whether one has.
-fn write(streams: &mut Standard, bytes: &[u8], is_failed: bool) -> bool {
-    if is_failed {
-        return true;
-    }
-    !put(streams, bytes)
-}
-
-// Writes what waits.
-pub(crate) fn flush(page: &mut Page, held: Held) -> Held
-    ensures { result.used.0 ≡ 0 }
-{
-    let waiting = within(&page.bytes, Bytes(0), held.used);
-    let is_failed = write(&mut page.streams, waiting, held.is_failed);
-    Held {
-        used: Bytes(0),
-        is_failed,
-    }
-}
-
-// Writes what waits where `n` bytes have no room behind it.
-fn with_room(n: Bytes, page: &mut Page, held: Held) -> Held
-    ensures in_page { result.used.0 ≤ length page.new.bytes }
-    ensures bound { result.used.0 ≤ 65536 }
-{
-    if page.bytes.len() < held.used.0 {
-        return flush(page, held);
-    }
-    if page.bytes.len() - held.used.0 < n.0 {
-        return flush(page, held);
-    }
-    held
-}
-
-// Puts some bytes behind what waits. What is longer than a page is written at once.
-pub(crate) fn piece(bytes: &[u8], page: &mut Page, held: Held) -> Held {
-    let before = with_room(Bytes(bytes.len()), page, held);
-    let is_failed = before.is_failed;
-    let start = before.used.0;
-    if page.bytes.len() - start < bytes.len() {
-        return Held {
-            used: Bytes(0),
-            is_failed: write(&mut page.streams, bytes, is_failed),
-        };
-    }
-    let end = start + bytes.len();
-    copy(bytes, &mut page.bytes[start..end]);
-    Held {
-        used: Bytes(end),
-        is_failed,
+// A write that fails is told by the streams, and is no error here.
+impl fmt::Write for Page {
+    fn write_str(&mut self, s: &str) -> fmt::Result {
+        self.piece(s.as_bytes());
+        Ok(())
     }
 }

@@ -1,69 +1,33 @@
 // The lines of what a MessagePropertiesHeader adds to the summary.
-use crate::line::{code, number, part, size, text};
-use crate::page::{Held, Page};
+use crate::page::Page;
 use reading::view::part_of;
 use rules::properties::{PropertiesFields, PropertiesParts};
 
-fn bits(flags: u8, page: &mut Page, held: Held) -> Held {
-    let held = number(b"PA: ", (flags % 2) as u64, page, held);
-    let held = number(b"PR: ", (flags / 2 % 2) as u64, page, held);
-    let held = number(b"NA: ", (flags / 4 % 2) as u64, page, held);
-    number(b"NR: ", (flags / 8 % 2) as u64, page, held)
+fn bits(page: &mut Page, flags: u8) {
+    page.number("PA: ", flags % 2);
+    page.number("PR: ", flags / 2 % 2);
+    page.number("NA: ", flags / 4 % 2);
+    page.number("NR: ", flags / 8 % 2);
 }
 
-fn label_and_class(f: PropertiesFields, page: &mut Page, held: Held) -> Held {
-    let held = number(b"LabelLength: ", f.label_length.0 as u64, page, held);
-    code(b"MessageClass: ", f.message_class as u64, 4, page, held)
+fn fields(page: &mut Page, f: PropertiesFields) {
+    page.code("MessagePropertiesHeader Flags: ", f.flags as u32, 2);
+    bits(page, f.flags);
+    page.number("LabelLength: ", f.label_length.0);
+    page.code("MessageClass: ", f.message_class as u32, 4);
+    page.number("BodyType: ", f.body_type);
+    page.number("MessageSize: ", f.message_size.0);
+    page.number("AllocationBodySize: ", f.allocation_body_size.0);
+    page.number("PrivacyLevel: ", f.privacy_level);
+    page.code("HashAlgorithm: ", f.hash_algorithm, 4);
+    page.code("EncryptionAlgorithm: ", f.encryption_algorithm, 4);
+    page.number("ExtensionSize: ", f.extension_size.0);
 }
 
-fn body(f: PropertiesFields, page: &mut Page, held: Held) -> Held {
-    let held = number(b"BodyType: ", f.body_type as u64, page, held);
-    let held = size(b"MessageSize: ", f.message_size, page, held);
-    size(b"AllocationBodySize: ", f.allocation_body_size, page, held)
-}
-
-fn algorithms(f: PropertiesFields, page: &mut Page, held: Held) -> Held {
-    let held = number(b"PrivacyLevel: ", f.privacy_level as u64, page, held);
-    let held = code(b"HashAlgorithm: ", f.hash_algorithm as u64, 4, page, held);
-    code(
-        b"EncryptionAlgorithm: ",
-        f.encryption_algorithm as u64,
-        4,
-        page,
-        held,
-    )
-}
-
-fn fields(f: PropertiesFields, page: &mut Page, held: Held) -> Held {
-    let held = label_and_class(f, page, held);
-    let held = body(f, page, held);
-    let held = algorithms(f, page, held);
-    size(b"ExtensionSize: ", f.extension_size, page, held)
-}
-
-fn parts(label: &[u8], p: &PropertiesParts, page: &mut Page, held: Held) -> Held {
-    let held = text(b"label text: ", label, page, held);
-    let held = part(b"label: ", p.label, page, held);
-    let held = part(b"extension: ", p.extension, page, held);
-    part(b"body: ", p.body, page, held)
-}
-
-pub(crate) fn properties(
-    s: &[u8],
-    f: PropertiesFields,
-    p: &PropertiesParts,
-    page: &mut Page,
-    held: Held,
-) -> Held {
-    let flags = f.flags;
-    let held = code(
-        b"MessagePropertiesHeader Flags: ",
-        flags as u64,
-        2,
-        page,
-        held,
-    );
-    let held = bits(flags, page, held);
-    let held = fields(f, page, held);
-    parts(part_of(s, p.label), p, page, held)
+pub(crate) fn properties(page: &mut Page, s: &[u8], f: PropertiesFields, p: PropertiesParts) {
+    fields(page, f);
+    page.text("label text: ", part_of(s, p.label));
+    page.part("label: ", p.label);
+    page.part("extension: ", p.extension);
+    page.part("body: ", p.body);
 }

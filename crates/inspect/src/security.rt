@@ -1,79 +1,50 @@
 // The lines of what a SecurityHeader adds to the summary: all zero, and no provider name, where none stands first.
-use crate::line::{code, number, part, size, text};
-use crate::page::{Held, Page};
-use octets::count::Bytes;
-use octets::part::within;
+use crate::page::Page;
 use reading::view::part_of;
 use rules::security::{AS, AU, DE, DP, EB, SecurityFields, SecurityHeader, SecurityParts};
 
-fn bits_from_eb(flags: u32, page: &mut Page, held: Held) -> Held {
-    let held = number(b"EB: ", (flags / EB % 2) as u64, page, held);
-    let held = number(b"DE: ", (flags / DE % 2) as u64, page, held);
-    let held = number(b"DP: ", (flags / DP % 2) as u64, page, held);
-    number(b"AS: ", (flags / AS % 16) as u64, page, held)
+fn flags_and_bits(page: &mut Page, flags: u32) {
+    page.code("SecurityHeader Flags: ", flags, 4);
+    page.number("ST: ", flags % AU);
+    page.number("AU: ", flags / AU % 2);
+    page.number("EB: ", flags / EB % 2);
+    page.number("DE: ", flags / DE % 2);
+    page.number("DP: ", flags / DP % 2);
+    page.number("AS: ", flags / AS % 16);
 }
 
-fn flags_and_bits(flags: u32, page: &mut Page, held: Held) -> Held {
-    let held = code(b"SecurityHeader Flags: ", flags as u64, 4, page, held);
-    let held = number(b"ST: ", (flags % AU) as u64, page, held);
-    let held = number(b"AU: ", (flags / AU % 2) as u64, page, held);
-    bits_from_eb(flags, page, held)
-}
-
-fn sizes_from_certificate(f: SecurityFields, page: &mut Page, held: Held) -> Held {
-    let held = size(b"SenderCertSize: ", f.sender_cert_size, page, held);
-    size(b"ProviderInfoSize: ", f.provider_info_size, page, held)
-}
-
-fn sizes(f: SecurityFields, page: &mut Page, held: Held) -> Held {
-    let held = size(b"SenderIdSize: ", f.sender_id_size, page, held);
-    let held = size(b"EncryptionKeySize: ", f.encryption_key_size, page, held);
-    let held = size(b"SignatureSize: ", f.signature_size, page, held);
-    sizes_from_certificate(f, page, held)
+fn sizes(page: &mut Page, f: SecurityFields) {
+    page.number("SenderIdSize: ", f.sender_id_size.0);
+    page.number("EncryptionKeySize: ", f.encryption_key_size.0);
+    page.number("SignatureSize: ", f.signature_size.0);
+    page.number("SenderCertSize: ", f.sender_cert_size.0);
+    page.number("ProviderInfoSize: ", f.provider_info_size.0);
 }
 
 // Behind the four bytes of the type.
-fn provider_name(s: &[u8], p: SecurityParts, page: &mut Page, held: Held) -> Held {
-    let info = part_of(s, p.provider_info);
-    if info.len() < 4 {
-        return text(b"provider name: ", info, page, held);
-    }
-    let name = within(info, Bytes(4), Bytes(info.len() - 4));
-    text(b"provider name: ", name, page, held)
+fn provider_name(page: &mut Page, info: &[u8]) {
+    page.text("provider name: ", info.get(4..).unwrap_or(info));
 }
 
-// The two judged bytes of an identity of ST 1, by MS-DTYP's names.
-fn identity_head(h: SecurityHeader, page: &mut Page, held: Held) -> Held {
-    let held = number(b"Revision: ", h.sid_revision as u64, page, held);
-    number(
-        b"SubAuthorityCount: ",
-        h.sid_sub_authority_count as u64,
-        page,
-        held,
-    )
+// The two judged bytes of an identity of ST 1, by MS-DTYP's names, and what the provider info holds.
+fn contents(page: &mut Page, s: &[u8], h: SecurityHeader) {
+    page.number("Revision: ", h.sid_revision);
+    page.number("SubAuthorityCount: ", h.sid_sub_authority_count);
+    page.number("provider type: ", h.provider_type);
+    provider_name(page, part_of(s, h.parts.provider_info));
 }
 
-fn contents(s: &[u8], h: SecurityHeader, page: &mut Page, held: Held) -> Held {
-    let held = identity_head(h, page, held);
-    let held = number(b"provider type: ", h.provider_type as u64, page, held);
-    provider_name(s, h.parts, page, held)
+fn parts(page: &mut Page, p: SecurityParts) {
+    page.part("identity: ", p.sender_id);
+    page.part("key: ", p.encryption_key);
+    page.part("signature: ", p.signature);
+    page.part("certificate: ", p.sender_cert);
+    page.part("provider info: ", p.provider_info);
 }
 
-fn parts_from_certificate(p: SecurityParts, page: &mut Page, held: Held) -> Held {
-    let held = part(b"certificate: ", p.sender_cert, page, held);
-    part(b"provider info: ", p.provider_info, page, held)
-}
-
-fn parts(p: SecurityParts, page: &mut Page, held: Held) -> Held {
-    let held = part(b"identity: ", p.sender_id, page, held);
-    let held = part(b"key: ", p.encryption_key, page, held);
-    let held = part(b"signature: ", p.signature, page, held);
-    parts_from_certificate(p, page, held)
-}
-
-pub(crate) fn security(s: &[u8], h: SecurityHeader, page: &mut Page, held: Held) -> Held {
-    let held = flags_and_bits(h.fields.flags, page, held);
-    let held = sizes(h.fields, page, held);
-    let held = contents(s, h, page, held);
-    parts(h.parts, page, held)
+pub(crate) fn security(page: &mut Page, s: &[u8], h: SecurityHeader) {
+    flags_and_bits(page, h.fields.flags);
+    sizes(page, h.fields);
+    contents(page, s, h);
+    parts(page, h.parts);
 }

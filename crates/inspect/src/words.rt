@@ -10,26 +10,14 @@ pub(crate) struct Words {
     pub is_private: bool,
 }
 
-#[derive(Clone, Copy)]
-pub(crate) enum Given {
-    Known(Words),
-    Unknown,
-}
-
 // `security` or `properties`, and then nothing or `private`.
-pub(crate) fn given_words<V: Env>(env: &V) -> Given {
+pub(crate) fn given_words<V: Env>(env: &V) -> Option<Words> {
     let security_first = is_word(env, 1, b"security");
     let is_private = has_word(env, 2);
-    if has_word(env, 3) {
-        return Given::Unknown;
-    }
-    if !security_first && !is_word(env, 1, b"properties") {
-        return Given::Unknown;
-    }
-    if is_private && !is_word(env, 2, b"private") {
-        return Given::Unknown;
-    }
-    Given::Known(Words {
+    let are_known = (security_first || is_word(env, 1, b"properties"))
+        && (!is_private || is_word(env, 2, b"private"))
+        && !has_word(env, 3);
+    are_known.then_some(Words {
         security_first,
         is_private,
     })

@@ -4,123 +4,94 @@
 // before a failed read are.
 use octets::count::Bytes;
 use records::append::append_line;
+use records::head::Next;
 use records::line::Row;
-use records::record::{Next, next_record};
-use rules::section::Output;
+use records::record::next_record;
 use streams::buffer::large_buffer;
 use streams::output::{put_first, tell};
 use streams::streams::{Standard, standard};
 use streams::window::{Window, bytes_held, refill};
 use streams::word::has_word;
 
-// What the output buffer holds: lines in the first `used` bytes. No line follows where the last one is printed, or where
-// handing some on has failed.
-#[derive(Drop)]
-struct Lines {
+// (Streams and output stay apart: `list` needs the streams for its input in between.)
+// Hands the lines on, and adds a line as the first; how many bytes are used then, or none where handing on has failed. (No
+// line is longer than the buffer.)
+fn add_first_line(
+    streams: &mut Standard,
+    row: Row,
+    output: &mut [u8],
     used: Bytes,
-    is_over: bool,
-}
-
-// Hands the lines on, and adds a line as the first. (No line is longer than the buffer.)
-fn add_first_line(streams: &mut Standard, row: Row, output: &mut [u8], used: Bytes) -> Lines {
+) -> Option<Bytes> {
     if !put_first(streams, output, used) {
-        return Lines {
-            used,
-            is_over: true,
-        };
+        return None;
     }
-    match append_line(row, output, Bytes(0)) {
-        Output::Written(first) => Lines {
-            used: first,
-            is_over: false,
-        },
-        Output::Refused(_) => Lines {
-            used: Bytes(0),
-            is_over: true,
-        },
-    }
+    append_line(row, output, Bytes(0)).ok()
 }
 
 // Adds a line; where it does not fit, those before it are handed on first.
-fn add_line(streams: &mut Standard, row: Row, output: &mut [u8], used: Bytes) -> Lines {
+fn add_line(streams: &mut Standard, row: Row, output: &mut [u8], used: Bytes) -> Option<Bytes> {
     match append_line(row, output, used) {
-        Output::Written(more) => Lines {
-            used: more,
-            is_over: false,
-        },
-        Output::Refused(_) => add_first_line(streams, row, output, used),
+        Ok(more) => Some(more),
+        Err(_) => add_first_line(streams, row, output, used),
     }
 }
 
 // Hands the lines on, and then the last one, which so is printed only where those before it were.
-fn finish(streams: &mut Standard, row: Row, output: &mut [u8], used: Bytes) -> Lines {
-    let last = add_first_line(streams, row, output, used);
-    if !last.is_over {
-        put_first(streams, output, last.used);
-    }
-    Lines {
-        used: Bytes(0),
-        is_over: true,
+fn finish(streams: &mut Standard, row: Row, output: &mut [u8], used: Bytes) {
+    if let Some(last) = add_first_line(streams, row, output, used) {
+        put_first(streams, output, last);
     }
 }
 
-// What a record takes of the bytes held, and the lines with its own.
-#[derive(Drop)]
-struct Step {
+// How many bytes a record takes of those held, and how many of the output are used with its line.
+#[derive(Clone, Copy)]
+struct Listed {
     size: Bytes,
-    lines: Lines,
+    used: Bytes,
 }
 
-// The record at the first byte of `held`, or the last line.
+// The record at the first byte of `held`; none where the last line is printed, or where handing lines on has failed.
 fn list_next(
     streams: &mut Standard,
     number: u64,
     held: &[u8],
     output: &mut [u8],
     used: Bytes,
-) -> Step {
-    match next_record(held) {
+) -> Option<Listed> {
+    let last = match next_record(held) {
         Next::Found(record) => {
-            let size = record.size;
-            let answer = record.answer;
-            Step {
-                size,
-                lines: add_line(streams, Row::Record(number, answer), output, used),
-            }
+            let used = add_line(streams, Row::Record(number, record.answer), output, used)?;
+            return Some(Listed {
+                size: record.size,
+                used,
+            });
         }
-        Next::End => Step {
-            size: Bytes(0),
-            lines: finish(streams, Row::End(number), output, used),
-        },
-        Next::Stop => Step {
-            size: Bytes(0),
-            lines: finish(streams, Row::Stop(number), output, used),
-        },
-    }
+        Next::End => Row::End(number),
+        Next::Stop => Row::Stop(number),
+    };
+    finish(streams, last, output, used);
+    None
 }
 
 // A proved loop has to end, and nothing says that the input does: this one ends at the latest where the records' number
 // would no longer fit its 64 bits.
 fn list(streams: &mut Standard, input: &mut [u8], output: &mut [u8]) {
     let mut window = Window::empty();
-    let mut lines = add_first_line(streams, Row::Header, output, Bytes(0));
-    let mut number = 0;
-    while number < u64::MAX && !lines.is_over {
+    let Some(mut used) = add_first_line(streams, Row::Header, output, Bytes(0)) else {
+        return;
+    };
+    for number in 0..u64::MAX {
         window = refill(streams, input, window);
         if window.has_failed {
-            put_first(streams, output, lines.used);
+            put_first(streams, output, used);
             return;
         }
-        let step = list_next(
-            streams,
-            number,
-            bytes_held(input, window),
-            output,
-            lines.used,
-        );
-        window = window.behind(step.size);
-        lines = step.lines;
-        number += 1;
+        let held = bytes_held(input, window);
+        let Some(listed) = list_next(streams, number, held, output, used) else {
+            return;
+        };
+        window = window.behind(listed.size);
+        used = listed.used;
     }
 }
 

@@ -1,3 +1,4 @@
+pub mod Folds
 pub mod Move
 pub mod Number
 pub mod Over
@@ -7,3 +8,4 @@ pub mod Same
 pub mod Steps
 pub mod Text
 pub mod UnitBytes
+pub mod Words

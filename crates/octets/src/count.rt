@@ -3,12 +3,12 @@ ghost use Rattle.std.specs.Prelude.{◌≡◌, ◌*◌, ◌/◌, min};
 
 // A count of bytes, or an offset in bytes.
 #[repr(C)]
-#[derive(Clone, Copy)]
+#[derive(Clone, Copy, PartialEq, Eq, PartialOrd, Ord, Debug, Default)]
 pub struct Bytes(pub usize);
 
 // A count of 16-bit units.
 #[repr(C)]
-#[derive(Clone, Copy)]
+#[derive(Clone, Copy, PartialEq, Eq, PartialOrd, Ord, Debug, Default)]
 pub struct Units(pub u32);
 
 impl Units {
@@ -16,8 +16,7 @@ impl Units {
     pub fn bytes(self) -> Bytes
         ensures { result.0 ≡ 2 * self.0 }
     {
-        let units = self.0;
-        Bytes(2 * (units as usize))
+        Bytes(2 * self.0 as usize)
     }
 }
 
@@ -26,19 +25,12 @@ impl Bytes {
     pub fn units(self) -> Units
         ensures { result.0 ≡ min 4294967295 (self.0 / 2) }
     {
-        let units = self.0 / 2;
-        if 4294967295 < units {
-            return Units(4294967295);
-        }
-        Units(units as u32)
+        Units(u32::try_from(self.0 / 2).unwrap_or(u32::MAX))
     }
 }
 
 pub fn smaller(a: Bytes, b: Bytes) -> Bytes
     ensures { result.0 ≡ min a.0 b.0 }
 {
-    if a.0 < b.0 {
-        return a;
-    }
-    b
+    Bytes(a.0.min(b.0))
 }

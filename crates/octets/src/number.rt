@@ -1,83 +1,76 @@
 // Little-endian numbers: of single bytes, as bytes, and in a slice. In a slice a byte past the end counts as 0, so that
-// every offset has an answer.
+// every offset has an answer. (A function for each width: a trait of three one-line impls would be no plainer.)
 ghost use Rattle.std.specs.Prelude.{◌≡◌, [], ◌∷◌, get_or};
 ghost use Rattle.octets.specs.Number.{le, to_le};
 
 use crate::count::Bytes;
+use crate::over::copy;
 
 pub fn u16_of(a: u8, b: u8) -> u16
     ensures { result ≡ le 2 (a ∷ b ∷ []) 0 }
 {
-    a as u16 + 256 * (b as u16)
+    u16::from_le_bytes([a, b])
 }
 
 pub fn u32_of(a: u8, b: u8, c: u8, d: u8) -> u32
     ensures { result ≡ le 4 (a ∷ b ∷ c ∷ d ∷ []) 0 }
 {
-    u16_of(a, b) as u32 + 65536 * (u16_of(c, d) as u32)
+    u32::from_le_bytes([a, b, c, d])
 }
 
 pub fn u16_bytes(n: u16) -> [u8; 2]
     ensures { result ≡ to_le 2 n }
 {
-    [(n % 256) as u8, (n / 256) as u8]
+    u16::to_le_bytes(n)
 }
 
 pub fn u32_bytes(n: u32) -> [u8; 4]
     ensures { result ≡ to_le 4 n }
 {
-    let low = u16_bytes((n % 65536) as u16);
-    let high = u16_bytes((n / 65536) as u16);
-    [low[0], low[1], high[0], high[1]]
+    u32::to_le_bytes(n)
 }
 
 pub fn u64_bytes(n: u64) -> [u8; 8]
     ensures { result ≡ to_le 8 n }
 {
-    let low = u32_bytes((n % 4294967296) as u32);
-    let high = u32_bytes((n / 4294967296) as u32);
-    [
-        low[0], low[1], low[2], low[3], high[0], high[1], high[2], high[3],
-    ]
+    u64::to_le_bytes(n)
 }
 
 pub fn u8_at(s: &[u8], at: Bytes) -> u8
     ensures { result ≡ get_or s.now at.0 0 }
 {
-    let i = at.0;
-    if i < s.len() { s[i] } else { 0 }
+    s.get(at.0).copied().unwrap_or(0)
+}
+
+// The N bytes at an offset.
+fn bytes_at<const N: usize>(s: &[u8], at: Bytes) -> [u8; N]
+    ensures { le N result 0 ≡ le N s.now at.0 }
+{
+    let rest = &s[at.0.min(s.len())..];
+    match rest.first_chunk() {
+        Some(bytes) => *bytes,
+        None => {
+            let mut bytes = [0; N];
+            copy(rest, &mut bytes);
+            bytes
+        }
+    }
 }
 
 pub fn u16_at(s: &[u8], at: Bytes) -> u16
     ensures { result ≡ le 2 s.now at.0 }
 {
-    // past the end first, so that no later offset wraps
-    if s.len() <= at.0 {
-        return 0;
-    }
-    u16_of(u8_at(s, at), u8_at(s, Bytes(at.0 + 1)))
+    u16::from_le_bytes(bytes_at(s, at))
 }
 
 pub fn u32_at(s: &[u8], at: Bytes) -> u32
     ensures { result ≡ le 4 s.now at.0 }
 {
-    // past the end first, so that no later offset wraps
-    if s.len() <= at.0 {
-        return 0;
-    }
-    let low = u16_at(s, at) as u32;
-    let high = u16_at(s, Bytes(at.0 + 2)) as u32;
-    low + 65536 * high
+    u32::from_le_bytes(bytes_at(s, at))
 }
 
 pub fn u64_at(s: &[u8], at: Bytes) -> u64
     ensures { result ≡ le 8 s.now at.0 }
 {
-    // past the end first, so that no later offset wraps
-    if s.len() <= at.0 {
-        return 0;
-    }
-    let low = u32_at(s, at) as u64;
-    let high = u32_at(s, Bytes(at.0 + 4)) as u64;
-    low + 4294967296 * high
+    u64::from_le_bytes(bytes_at(s, at))
 }

@@ -8,13 +8,8 @@ use crate::count::Bytes;
 pub fn within(s: &[u8], start: Bytes, length: Bytes) -> &[u8]
     ensures { result.now ≡ within s.now start.0 length.0 }
 {
-    let from = start.0;
-    let size = length.0;
-    if s.len() < from {
-        return &s[..0];
+    match s.get(start.0..) {
+        Some(rest) if length.0 <= rest.len() => &rest[..length.0],
+        _ => &s[..0],
     }
-    if s.len() - from < size {
-        return &s[..0];
-    }
-    &s[from..from + size]
 }

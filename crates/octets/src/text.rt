@@ -6,7 +6,8 @@ use crate::count::{Bytes, smaller};
 use crate::number::{u16_at, u16_of};
 
 // Whether a zero unit stands before `end`. No early exit, so that the loop, whose index counts units, becomes vector
-// code of 16-bit lanes.
+// code of 16-bit lanes. (By `for` here 30 bytes took two fifths longer in `before_zero`, measured by itself; by a fold 100
+// bytes a third longer in `is_text`; by `position` 4 KB four times as long.)
 fn has_zero(s: &[u8], end: Bytes) -> bool
     requires { end.0 ≤ length s.now }
     ensures { result ≡ ltb (first_zero (units s.now)) (end.0 / 2) }
@@ -58,7 +59,8 @@ pub fn is_text(s: &[u8]) -> bool
     !has_zero_in(s, last)
 }
 
-// As many whole blocks from the first on as hold no zero unit, in bytes.
+// As many whole blocks from the first on as hold no zero unit, in bytes. (With `for` in all three loops 30 and 64 bytes took
+// a third longer and more, measured by itself.)
 fn blocks_without_zero(s: &[u8]) -> Bytes
     ensures { result.0 ≡ 32 * (first_zero (units s.now) / 16) }
 {
@@ -73,6 +75,7 @@ fn blocks_without_zero(s: &[u8]) -> Bytes
 }
 
 // How many bytes stand before the first zero unit, where none stands before `from`: all whole units where none is zero.
+// (No `for`, as above.)
 fn before_zero_from(s: &[u8], from: Bytes) -> Bytes
     requires from_value { from.0 % 2 ≡ 0 }
     requires from_bound { from.0 / 2 ≤ first_zero (units s.now) }

@@ -1,5 +1,3 @@
-pub mod Portion
 pub mod Refusals
 pub mod Row
-pub mod Security
 pub mod Theorems

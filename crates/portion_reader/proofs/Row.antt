@@ -1,4 +1,4 @@
--- The row of numbers and back.
+-- The numbers and back.
 use Prim.Native.Nat.{ℕ, zero, suc, ◌+◌, ◌*◌, ◌<◌}
 use mathlib.Core.Path.{◌≡◌, refl}
 use mathlib.Core.Bool.{Bool, true, false, not, ◌||◌, cond}
@@ -6,7 +6,7 @@ use mathlib.Core.List.{List, [], ◌∷◌}
 use native.Mathlib.Nat.{mod-eq_of_lt, mod-lt}
 use native.Mathlib.Omega.{arith}
 use borrow.Author.Tests.{leb-false}
-use lib.ListN.{get_or, take, drop}
+use lib.ListN.{take, drop}
 use lib.Seq.{get_or-drop}
 use lib.Dec.{eqb, leb}
 use Rattle.octets.specs.Octets.{Octets}
@@ -14,15 +14,16 @@ use Rattle.rules.specs.Refusal.{limit}
 use Rattle.portions.specs.Name.{named, with_byte, with_unit}
 use Rattle.portions.specs.declared.name.NameProgress.{NameProgress}
 use Rattle.portions.specs.declared.state.Progress.{Progress}
-use Rattle.portion_reader.specs.Counters.{counters_of, flag, progress_of}
+use Rattle.std.specs.Int.{from_bool}
+use Rattle.portion_reader.specs.Counters.{counters_of, progress_of}
+use Rattle.portion_reader.specs.declared.counters.Counters.{Counters}
 
 -- the name's count and low byte fit their numbers
 pub record Fits (m : NameProgress) : Type 0 where
   pub units : m.units.0 < 4294967296
   pub low : m.low < 256
 
-flag-set : (b : Bool) → not (eqb (flag b) 0) ≡ b
-unfolding flag
+flag-set : (b : Bool) → not (eqb (from_bool b) 0) ≡ b
 flag-set true = refl
 flag-set false = refl
 
@@ -43,9 +44,9 @@ progress-kept p fits = λ i.
           };
     }
 
-pub progress-fits : (c : List ℕ) → Fits (progress_of c).name
+pub progress-fits : (c : Counters) → Fits (progress_of c).name
 unfolding progress_of
-progress-fits c = record { units = mod-lt (get_or c 6 0) (omega arith); low = mod-lt (get_or c 9 0) (omega arith) }
+progress-fits c = record { units = mod-lt c.name_units (omega arith); low = mod-lt c.name_low (omega arith) }
 
 -- a byte more
 unit-fits : (m : NameProgress) (u : ℕ) → Fits m → Fits (with_unit m u)

@@ -1,53 +1,28 @@
 -- Each call by whether the state is finished.
-use Prim.Native.Nat.{ℕ, ◌+◌, ◌-◌, min}
+use Prim.Native.Nat.{ℕ, ◌-◌}
 use mathlib.Core.Path.{◌≡◌, refl, sym, ap, ◌∙◌}
 use mathlib.Core.Bool.{Bool, true, false, cond}
-use mathlib.Core.List.{List, [], ◌∷◌}
+use mathlib.Core.List.{List, []}
 use native.Mathlib.Omega.{arith}
-use lib.ListN.{length, set}
+use lib.ListN.{length}
 use Rattle.octets.specs.Octets.{Octets}
 use Rattle.octets.proofs.Laws.Steps.{answers, passed}
-use Rattle.rules.specs.Refusal.{bytes}
 use Rattle.portions.specs.Finish.{finish_state, finished_progress}
 use Rattle.portions.specs.Name.{no_name}
 use Rattle.portions.specs.Portion.{portion_state}
 use Rattle.portions.specs.Fed.{counted, counts_only, gathered, name_then, places_after, progress_then}
-use Rattle.portions.specs.State.{name_in, places_of, reach, security_in, state_of, state_with}
+use Rattle.portions.specs.State.{name_in, places_of, security_in, state_of, state_with}
 use Rattle.portions.specs.Window.{shown, window}
 use Rattle.portions.specs.declared.state.Progress.{Progress}
 use Rattle.portions.specs.declared.state.State.{State}
 use Rattle.portions.proofs.Laws.Call.{changes-fed, counts-fed, refused-state, taken-state}
 use Rattle.portion_reader.proofs.Row.{Fits, named-fits, part-octets, progress-fits, progress-kept}
 use Rattle.portion_reader.specs.Answer.{finish_counters, portion_counters, state_answer}
-use Rattle.portion_reader.specs.Counters.{counters_of, progress_of}
+use Rattle.portion_reader.specs.Counters.{progress_of}
+use Rattle.portion_reader.specs.declared.counters.Counters.{Counters}
 use Rattle.portion_reader.specs.Theorems.{CountersKept}
 
-length-counters : (p : Progress) → length (counters_of p) ≡ 10
-unfolding counters_of
-length-counters p = refl
-
--- one number changed
-set-received : (c : List ℕ) (r : ℕ) → length c ≡ 10
-    → (progress_of (set c 2 r) ≡ record {
-      security_first = (progress_of c).security_first;
-      finished = (progress_of c).finished;
-      received = bytes r;
-      places = (progress_of c).places;
-      name = (progress_of c).name;
-    }) × (length (set c 2 r) ≡ 10)
-unfolding progress_of
-set-received [] r e = absurd (omega arith)
-set-received (a ∷ []) r e = absurd (omega arith)
-set-received (a ∷ b ∷ []) r e = absurd (omega arith)
-set-received (a ∷ b ∷ d ∷ c) r e = (refl, e)
-
-set-finished : (c : List ℕ) → length c ≡ 10 → (progress_of (set c 1 1) ≡ finished_progress (progress_of c)) × (length (set c 1 1) ≡ 10)
-unfolding progress_of finished_progress
-set-finished [] e = absurd (omega arith)
-set-finished (a ∷ []) e = absurd (omega arith)
-set-finished (a ∷ b ∷ c) e = (refl, e)
-
-module _ (c head type properties t : List ℕ) (ten : length c ≡ 10) (o : Octets t) where
+module _ (c : Counters) (head type properties t : List ℕ) (o : Octets t) where
   abbrev p : Progress
   p = progress_of c
 
@@ -61,27 +36,26 @@ module _ (c head type properties t : List ℕ) (ten : length c ≡ 10) (o : Octe
       let q = places_after p (shown head 0 k t) in
       named-fits p.name (name_then q k t) (part-octets (q.name_size.0 - (k - q.name_at.0)) (q.name_at.0 - k) t o) (progress-fits c)
 
-  abbrev row : List ℕ
+  abbrev row : Counters
   row = portion_counters c x t
 
   abbrev Kept : Type 0
-  Kept = (progress_of row ≡ (portion_state x t).progress) × (length row ≡ 10)
+  Kept = progress_of row ≡ (portion_state x t).progress
 
   refused : p.finished ≡ true → Kept
   unfolding portion_counters
   refused e =
       let same : row ≡ c = rw e in
-      (ap progress_of same ∙ ap (λ (y : State). y.progress) (sym (refused-state x t e)), ap length same ∙ ten)
+      ap progress_of same ∙ ap (λ (y : State). y.progress) (sym (refused-state x t e))
 
   module _ (going : p.finished ≡ false) where
     -- the count alone changes, or all of the row
     counts : counts_only x (length t) ≡ true → Kept
-    unfolding portion_counters counted
+    unfolding portion_counters counted progress_of
     counts e =
-        let one = set-received c (min reach (p.received.0 + length t)) ten in
         let same = sym (passed _ _ _ _ (sym going) (answers _ _ _ _ (sym e) refl)) in
         let to = ap (λ (y : State). y.progress) (taken-state x t going) ∙ counts-fed x t e in
-        (ap progress_of same ∙ one.0 ∙ sym to, ap length same ∙ one.1)
+        ap progress_of same ∙ sym to
 
     changes : counts_only x (length t) ≡ false → Kept
     unfolding portion_counters
@@ -89,7 +63,7 @@ module _ (c head type properties t : List ℕ) (ten : length c ≡ 10) (o : Octe
         let q = (gathered x t).progress in
         let same = sym (passed _ _ _ _ (sym going) (passed _ _ _ _ (sym e) refl)) in
         let to = ap (λ (y : State). y.progress) (taken-state x t going ∙ changes-fed x t e) in
-        (ap progress_of same ∙ progress-kept q gathered-fits ∙ sym to, ap length same ∙ length-counters q)
+        ap progress_of same ∙ progress-kept q gathered-fits ∙ sym to
 
   portion-kept : Kept
   portion-kept = go p.finished refl (counts_only x (length t)) refl
@@ -99,21 +73,18 @@ module _ (c head type properties t : List ℕ) (ten : length c ≡ 10) (o : Octe
       go false f true e = counts f e
       go false f false e = changes f e
 
-finish-kept : (c head type properties : List ℕ) → length c ≡ 10
+finish-kept : (c : Counters) (head type properties : List ℕ)
     → let x = state_with (progress_of c) head type properties in
-    (progress_of (finish_counters c) ≡ (finish_state x).progress) × (length (finish_counters c) ≡ 10)
+    progress_of (finish_counters c) ≡ (finish_state x).progress
 unfolding finish_counters finish_state finished_progress progress_of
-finish-kept c head type properties ten = go (progress_of c).finished refl
+finish-kept c head type properties = go (progress_of c).finished refl
   where
     p : Progress
     p = progress_of c
 
-    go : (b : Bool) → p.finished ≡ b → let d = cond b c (set c 1 1) in (progress_of d ≡ finished_progress p) × (length d ≡ 10)
-    go true e = (
-      λ i. record { security_first = p.security_first; finished = e i; received = p.received; places = p.places; name = p.name },
-      ten,
-    )
-    go false e = set-finished c ten
+    go : (b : Bool) → p.finished ≡ b → progress_of (cond b c (record c { finished = 1 })) ≡ finished_progress p
+    go true e = λ i. record p { finished = e i }
+    go false e = refl
 
 none-octets : (first : Bool) → Octets (security_in first [])
 none-octets true i = omega arith

@@ -4,6 +4,7 @@ use Rattle.portions.specs.Fed.{before_provider, past_security, progress_then, se
 use Rattle.portions.specs.Window.{shown}
 use Rattle.portions.specs.declared.state.Progress.{Progress}
 use Rattle.portion_reader.specs.Counters.{counters_of, progress_of}
+use Rattle.portion_reader.specs.declared.counters.Counters.{Counters}
 
 -- n bytes more lie before provider info
 unfoldable pub counted_only : Progress → ℕ → Bool
@@ -18,7 +19,7 @@ security_head p head t = cond (security_stays p (length t)) head (shown head 0 p
 abbrev pub security_progress : Progress → List ℕ → List ℕ → Progress
 security_progress p head t = progress_then p (shown head 0 p.received.0 t) t
 
-unfoldable pub security_counters : List ℕ → List ℕ → List ℕ → List ℕ
+unfoldable pub security_counters : Counters → List ℕ → List ℕ → Counters
 security_counters c head t = let p = progress_of c in cond (security_stays p (length t)) c (counters_of (security_progress p head t))
 
 unfoldable pub security_type : Progress → List ℕ → List ℕ → List ℕ → List ℕ

@@ -1,6 +1,5 @@
 pub mod Answer
 pub mod Call
-pub mod Case
 pub mod Gathered
 pub mod Header
 pub mod Judge

@@ -1,5 +1,6 @@
 -- The states that the calls make, and what they answer.
 use Prim.Native.Nat.{ℕ}
+use Rattle.std.specs.Prelude.{Ok}
 use mathlib.Core.Path.{◌≡◌, refl, sym, ap, ◌∙◌}
 use mathlib.Core.Bool.{Bool, true, false, true≢false}
 use mathlib.Core.List.{List, [], ◌∷◌, ◌++◌, append_assoc, append-nil}
@@ -11,7 +12,6 @@ use Rattle.portions.specs.Finish.{finish_answer, finish_state, finished_progress
 use Rattle.portions.specs.Portion.{portion_state}
 use Rattle.portions.specs.State.{state_of}
 use Rattle.portions.specs.Theorems.{Going, Over, SameHere, SlowLink}
-use Rattle.portions.specs.declared.portion.PortionAnswer.TheVariants.{Taken}
 use Rattle.portions.specs.declared.state.State.{State}
 use Rattle.portions.proofs.Laws.Answer.{label-held, state-answer}
 use Rattle.portions.proofs.Laws.Call.{answered, refused-again, refused-answer, refused-state, taken-answer, taken-state}
@@ -90,7 +90,7 @@ module _ (first : Bool) (cs : List Call) (e : finishes cs ≡ false) where
         taken = λ t.
             let x = made first cs in
             let runs = ap (λ (y : State). y.progress.finished) state ∙ unfinished first s in
-            taken-answer x t runs ∙ ap (λ (y : State). Taken y.progress) (sym (taken-state x t runs));
+            taken-answer x t runs ∙ ap (λ (y : State). Ok y.progress) (sym (taken-state x t runs));
       }
 
 module _ (first : Bool) (cs ds : List Call) (e : finishes cs ≡ false) (d : finishes ds ≡ false) where

@@ -21,14 +21,7 @@ unfoldable pub before_provider : ℕ → ℕ → ℕ → Bool
 before_provider k name n = leb 18 k && leb n (name - 4 - k)
 
 unfoldable pub counted : Progress → ℕ → Progress
-counted p n =
-    record {
-      security_first = p.security_first;
-      finished = p.finished;
-      received = bytes (min reach (p.received.0 + n));
-      places = p.places;
-      name = p.name;
-    }
+counted p n = record p { received = bytes (min reach (p.received.0 + n)) }
 
 -- once the SecurityHeader's 16 fixed bytes are there, the places stay
 unfoldable pub places_after : Progress → List ℕ → Places

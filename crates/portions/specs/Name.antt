@@ -20,7 +20,7 @@ with_unit m u =
 
 -- a byte is the low half of a unit, or the high half: "a portion may split a unit"
 unfoldable pub with_byte : NameProgress → ℕ → NameProgress
-with_byte m b = cond m.odd (with_unit m (m.low + 256 * b)) (record { units = m.units; ended = m.ended; odd = true; low = b })
+with_byte m b = cond m.odd (with_unit m (m.low + 256 * b)) (record m { odd = true; low = b })
 
 unfoldable pub named : NameProgress → List ℕ → NameProgress
 named m [] = m

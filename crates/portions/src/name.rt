@@ -1,16 +1,16 @@
 // The provider name, judged as it passes: of its units only how many stand before the first zero unit is kept.
-ghost use Rattle.std.specs.Prelude.{◌≡◌, false, cond, ◌*◌, ◌/◌, ◌<◌, length, get_or, take, drop};
+ghost use Rattle.std.specs.Prelude.{◌≡◌, false, ◌*◌, ◌/◌, length, take};
 ghost use Rattle.portions.specs.Name.{named, with_byte, with_unit};
 
-use crate::window::less;
-use octets::count::{Bytes, Units, smaller};
+use octets::count::{Bytes, Units};
 use octets::number::u16_of;
 use octets::text::before_zero;
 use rules::section::LIMIT;
 
 // How many units came before the first zero unit, whether that came, and a unit's low byte whose high byte has not come.
+// (A mark beside the byte, as `Progress` and C's counters have them.)
 #[repr(C)]
-#[derive(Clone, Copy)]
+#[derive(Clone, Copy, Default)]
 pub struct NameProgress {
     pub units: Units,
     pub ended: bool,
@@ -18,21 +18,23 @@ pub struct NameProgress {
     pub low: u8,
 }
 
+#[tactic(auto, unfolding(crate::specs::Name::with_unit))]
 fn with_unit(name: NameProgress, unit: u16) -> NameProgress
     ensures { result ≡ with_unit name unit }
 {
     let units = name.units.0;
-    let ended = name.ended | (unit == 0);
+    let ended = name.ended || unit == 0;
     // no name is longer than a section, so the count needs no more room
-    let stays = ended | (LIMIT as u32 <= units);
+    let counts = !ended && units < LIMIT as u32;
     NameProgress {
-        units: Units(if stays { units } else { units + 1 }),
+        units: Units(units + u32::from(counts)),
         ended,
         odd: false,
         low: 0,
     }
 }
 
+#[tactic(auto, unfolding(crate::specs::Name::with_byte, octets::specs::Number::le))]
 fn with_byte(name: NameProgress, byte: u8) -> NameProgress
     ensures { result ≡ with_byte name byte }
 {
@@ -40,10 +42,9 @@ fn with_byte(name: NameProgress, byte: u8) -> NameProgress
         return with_unit(name, u16_of(name.low, byte));
     }
     NameProgress {
-        units: Units(name.units.0),
-        ended: name.ended,
         odd: true,
         low: byte,
+        ..name
     }
 }
 
@@ -55,19 +56,13 @@ fn with_whole_units(name: NameProgress, part: &[u8]) -> NameProgress
     if part.len() < 2 {
         return name;
     }
-    let units = name.units;
     if name.ended {
-        return NameProgress {
-            units,
-            ended: true,
-            odd: false,
-            low: 0,
-        };
+        return NameProgress { low: 0, ..name };
     }
     let before = before_zero(part);
-    let room = less(Bytes(2 * LIMIT), units.bytes());
+    let room = (2 * LIMIT).saturating_sub(name.units.bytes().0);
     NameProgress {
-        units: Units(units.0 + smaller(before, room).units().0),
+        units: Units(name.units.0 + Bytes(before.0.min(room)).units().0),
         ended: before.0 + 1 < part.len(),
         odd: false,
         low: 0,
@@ -80,41 +75,23 @@ fn with_units(name: NameProgress, part: &[u8]) -> NameProgress
     ensures { result ≡ named name part.now }
 {
     let judged = with_whole_units(name, part);
-    let n = 2 * (part.len() / 2);
-    if n < part.len() {
-        return with_byte(judged, part[n]);
+    if part.len() % 2 == 0 {
+        return judged;
     }
-    judged
-}
-
-// The high half of a unit that was split, where one was.
-fn with_half(name: NameProgress, part: &[u8]) -> NameProgress
-    requires { 0 < length part.now }
-    ensures { result ≡ cond name.odd (with_byte name (get_or part.now 0 0)) name }
-{
-    if name.odd {
-        return with_byte(name, part[0]);
-    }
-    name
-}
-
-// The bytes behind it.
-fn behind_half(odd: bool, part: &[u8]) -> &[u8]
-    requires { 0 < length part.now }
-    ensures { result.now ≡ cond odd (drop 1 part.now) part.now }
-{
-    if odd {
-        return &part[1..];
-    }
-    part
+    with_byte(judged, part[part.len() - 1])
 }
 
 // The bytes of the name that a portion brings. (The units are gone through in one place, so that no name is moved.)
 pub(crate) fn with_bytes(name: NameProgress, part: &[u8]) -> NameProgress
     ensures { result ≡ named name part.now }
 {
-    if part.len() == 0 {
+    if part.is_empty() {
         return name;
     }
-    with_units(with_half(name, part), behind_half(name.odd, part))
+    let whole = if name.odd {
+        with_byte(name, part[0])
+    } else {
+        name
+    };
+    with_units(whole, &part[usize::from(name.odd)..])
 }

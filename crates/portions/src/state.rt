@@ -1,13 +1,10 @@
 // The state of a section that comes in portions: what is kept of all bytes so far, whatever the section's length.
 ghost use Rattle.std.specs.Prelude.{◌≡◌, []};
-ghost use Rattle.rules.specs.Refusal.{refusal};
 ghost use Rattle.portions.specs.State.{state_of};
 
 use crate::name::NameProgress;
 use crate::place::{Places, places_at_start};
 use octets::count::{Bytes, Units};
-use rules::refusal;
-use rules::refusal::Refusal;
 
 // What is counted and judged. (By itself, so that a portion moves no more than this: the bytes are lent.)
 #[repr(C)]
@@ -41,25 +38,10 @@ pub fn start(security_first: bool) -> State
             finished: false,
             received: Bytes(0),
             places: places_at_start(security_first),
-            name: NameProgress {
-                units: Units(0),
-                ended: false,
-                odd: false,
-                low: 0,
-            },
+            name: NameProgress::default(),
         },
         head: [0u8; 18],
         provider_type: [0u8; 4],
         properties: [0u8; 556],
-    }
-}
-
-// 14
-pub fn after_the_finish() -> Refusal
-    ensures { result ≡ refusal 14 0 }
-{
-    Refusal {
-        number: refusal::AFTER_THE_FINISH,
-        place: Bytes(0),
     }
 }

@@ -1,5 +1,6 @@
 -- 01, "Queue formats": reading an image.
-use Rattle.std.specs.Prelude.{ℕ, ◌+◌, ◌-◌, cond, List, length, get_or, drop, eqb, ltb}
+use Rattle.std.specs.Prelude.{Err, Ok, Result, ℕ, ◌+◌, ◌-◌, cond, List, length, get_or, drop, eqb, ltb}
+use Rattle.rules.specs.declared.refusal.Refusal.{Refusal}
 use Rattle.rules.specs.Refusal.{first_of, refusal}
 use Rattle.rules.specs.Security.{part}
 use Rattle.rules.specs.declared.section.Part.{Part}
@@ -7,8 +8,6 @@ use Rattle.queues.specs.Format.{queue_format}
 use Rattle.queues.specs.Steps.{fixed_size, format_steps, value_steps}
 use Rattle.queues.specs.declared.format.QueueFormat.{QueueFormat}
 use Rattle.queues.specs.declared.image.Image.{Image}
-use Rattle.queues.specs.declared.image.ImageRead.{ImageRead}
-use Rattle.queues.specs.declared.image.ImageRead.TheVariants.{Accepted, Refused}
 
 -- "type, suffix and flags, two reserved bytes (ignored when read, zero when written), then the value"
 unfoldable pub format_of : List ℕ → QueueFormat
@@ -34,5 +33,5 @@ unfoldable pub image_of : List ℕ → Image
 image_of s =
     image_from (format_of s) (fixed_size (format_of s).kind) (length s - (4 + fixed_size (format_of s).kind))
 
-unfoldable pub read_image : List ℕ → ImageRead
-read_image s = cond (eqb (image_steps s) 0) (Accepted (image_of s)) (Refused (refusal (image_steps s) 0))
+unfoldable pub read_image : List ℕ → Result Image Refusal
+read_image s = cond (eqb (image_steps s) 0) (Ok (image_of s)) (Err (refusal (image_steps s) 0))

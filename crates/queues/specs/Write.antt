@@ -1,8 +1,9 @@
 -- 01, "Queue formats": writing an image.
-use Rattle.std.specs.Prelude.{ℕ, not, cond, List, ◌∷◌, ◌++◌, length, eqb}
+use Rattle.std.specs.Prelude.{Result, ℕ, not, cond, List, ◌∷◌, ◌++◌, length, eqb}
+use Rattle.octets.specs.declared.count.Bytes.{Bytes}
+use Rattle.rules.specs.declared.refusal.Refusal.{Refusal}
 use Rattle.rules.specs.Output.{writer_answer, writer_output}
 use Rattle.rules.specs.Refusal.{first_of, refusal}
-use Rattle.rules.specs.declared.section.Output.{Output}
 use Rattle.queues.specs.Steps.{fixed_size, format_steps, value_steps}
 use Rattle.queues.specs.declared.format.QueueFormat.{QueueFormat}
 
@@ -18,7 +19,7 @@ write_steps f fixed text =
     (value_steps f.kind (fixed ++ text)))
 
 -- ", then 13": what the writer answers, and what the lent output then holds
-unfoldable pub write_answer : QueueFormat → List ℕ → List ℕ → List ℕ → Output
+unfoldable pub write_answer : QueueFormat → List ℕ → List ℕ → List ℕ → Result Bytes Refusal
 write_answer f fixed text out = writer_answer (refusal (write_steps f fixed text) 0) (length (image_bytes f (fixed ++ text))) out
 
 unfoldable pub write_bytes : QueueFormat → List ℕ → List ℕ → List ℕ → List ℕ

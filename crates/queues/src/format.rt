@@ -2,13 +2,9 @@
 ghost use Rattle.std.specs.Prelude.{◌≡◌};
 ghost use Rattle.queues.specs.Format.{flags, pair_passes, queue_format, suffix};
 
-use crate::suffix::{
-    deadletter_passes, deadxact_passes, journal_passes, none_passes, subqueue_passes,
-    xactonly_passes,
-};
-
+// As C has it. (The numbers are no enums: C hands any in, and the steps refuse those that name no type or suffix.)
 #[repr(C)]
-#[derive(Clone, Copy)]
+#[derive(Clone, Copy, PartialEq, Eq, Debug, Default)]
 pub struct QueueFormat {
     pub kind: u8,
     pub suffix_and_flags: u8,
@@ -59,6 +55,7 @@ impl QueueFormat {
     }
 
     // The suffix type: the low nibble.
+    #[tactic(auto, unfolding(crate::specs::Format::suffix))]
     pub fn suffix(self) -> u8
         ensures { result ≡ suffix self }
     {
@@ -67,6 +64,7 @@ impl QueueFormat {
     }
 
     // The flags: the high nibble, in its place.
+    #[tactic(auto, unfolding(crate::specs::Format::flags))]
     pub fn flags(self) -> u8
         ensures { result ≡ flags self }
     {
@@ -75,30 +73,29 @@ impl QueueFormat {
     }
 
     // Whether the suffix goes with the flags and the type.
+    #[tactic(auto, unfolding(crate::specs::Format::pair_passes, rules::specs::Listed::listed))]
     pub fn pair_passes(self) -> bool
         ensures { result ≡ pair_passes self }
     {
         let kind = self.kind;
-        let suffix = self.suffix();
-        let flags = self.flags();
-        if suffix == Self::SUFFIX_TYPE_NONE {
-            return none_passes(flags, kind);
+        let is_plain = self.flags() == Self::FLAG_NOT_SYSTEM;
+        let is_system = self.flags() == Self::FLAG_SYSTEM;
+        match self.suffix() {
+            Self::SUFFIX_TYPE_NONE => is_plain & (kind != Self::TYPE_MACHINE),
+            Self::SUFFIX_TYPE_JOURNAL => is_system
+                & !matches!(kind, Self::TYPE_CONNECTOR..=Self::TYPE_MULTICAST),
+            Self::SUFFIX_TYPE_DEADLETTER => is_system
+                & !matches!(
+                    kind,
+                    Self::TYPE_PUBLIC
+                        | Self::TYPE_PRIVATE
+                        | Self::TYPE_CONNECTOR..=Self::TYPE_MULTICAST
+                ),
+            Self::SUFFIX_TYPE_DEADXACT => is_system
+                & matches!(kind, Self::TYPE_DIRECT | Self::TYPE_MACHINE),
+            Self::SUFFIX_TYPE_XACTONLY => (is_plain | is_system) & (kind == Self::TYPE_CONNECTOR),
+            Self::SUFFIX_TYPE_SUBQUEUE => is_plain & (kind == Self::TYPE_SUBQUEUE),
+            _ => false,
         }
-        if suffix == Self::SUFFIX_TYPE_JOURNAL {
-            return journal_passes(flags, kind);
-        }
-        if suffix == Self::SUFFIX_TYPE_DEADLETTER {
-            return deadletter_passes(flags, kind);
-        }
-        if suffix == Self::SUFFIX_TYPE_DEADXACT {
-            return deadxact_passes(flags, kind);
-        }
-        if suffix == Self::SUFFIX_TYPE_XACTONLY {
-            return xactonly_passes(flags, kind);
-        }
-        if suffix == Self::SUFFIX_TYPE_SUBQUEUE {
-            return subqueue_passes(flags, kind);
-        }
-        false
     }
 }

@@ -1,6 +1,5 @@
 // The image of a queue format (01's term), as reading answers.
 use crate::format::QueueFormat;
-use rules::refusal::Refusal;
 use rules::section::Part;
 
 // The value as the writer takes it: its fixed bytes (GUID, OBJECTID or MULTICAST_ID) and its string, each as a place in
@@ -10,10 +9,4 @@ pub struct Image {
     pub format: QueueFormat,
     pub fixed: Part,
     pub text: Part,
-}
-
-#[derive(Clone, Copy)]
-pub enum ImageRead {
-    Accepted(Image),
-    Refused(Refusal),
 }

@@ -4,5 +4,4 @@ pub mod format;
 pub mod image;
 pub mod read;
 mod steps;
-mod suffix;
 pub mod write;

@@ -1,16 +1,18 @@
 // Reading an image: every step first, then the image that passed them.
 ghost use Rattle.std.specs.Prelude.{◌≡◌};
+ghost use Rattle.rules.specs.Refusal.{number_of};
 ghost use Rattle.queues.specs.Read.{format_of, image_steps, part_at, read_image};
 
 use crate::format::QueueFormat;
-use crate::image::{Image, ImageRead};
-use crate::steps::{fixed_size, format_steps, refusal_of, text_steps};
+use crate::image::Image;
+use crate::steps::{fixed_size, format_steps, text_steps};
 use octets::count::Bytes;
 use octets::number::u8_at;
 use rules::layout::part;
-use rules::refusal;
+use rules::refusal::{Cause, Refusal};
 use rules::section::Part;
 
+#[tactic(auto, unfolding(crate::specs::Read::format_of))]
 fn format_of(s: &[u8]) -> QueueFormat
     ensures { result ≡ format_of s.now }
 {
@@ -18,25 +20,24 @@ fn format_of(s: &[u8]) -> QueueFormat
 }
 
 // 1, then 30 to 33
-fn image_steps(s: &[u8]) -> u32
-    ensures { result ≡ image_steps s.now }
+#[tactic(auto, unfolding(crate::specs::Read::image_steps, rules::specs::Refusal::first_of, rules::specs::Refusal::number_of, rules::specs::Refusal::number))]
+fn image_steps(s: &[u8]) -> Result<(), Cause>
+    ensures { number_of result ≡ image_steps s.now }
 {
     if s.len() < 4 {
-        return refusal::INPUT_SHORT;
+        return Err(Cause::InputShort);
     }
     let format = format_of(s);
-    let number = format_steps(format);
-    if number != refusal::PASSED {
-        return number;
-    }
+    format_steps(format)?;
     let at = 4 + fixed_size(format.kind).0;
     if s.len() < at {
-        return refusal::QUEUE_VALUE;
+        return Err(Cause::QueueValue);
     }
     text_steps(format.kind, &s[at..])
 }
 
 // So many bytes from `start`; no bytes are at 0.
+#[tactic(auto, unfolding(crate::specs::Read::part_at))]
 fn part_at(start: Bytes, length: Bytes) -> Part
     ensures { result ≡ part_at start.0 length.0 }
 {
@@ -47,17 +48,14 @@ fn part_at(start: Bytes, length: Bytes) -> Part
 }
 
 // Reads the input, which is exactly one image.
-pub fn read_image(s: &[u8]) -> ImageRead
+pub fn read_image(s: &[u8]) -> Result<Image, Refusal>
     ensures { result ≡ read_image s.now }
 {
-    let number = image_steps(s);
-    if number != refusal::PASSED {
-        return ImageRead::Refused(refusal_of(number));
-    }
+    image_steps(s).map_err(Refusal::at_start)?;
     let format = format_of(s);
     let fixed = fixed_size(format.kind);
     let at = 4 + fixed.0;
-    ImageRead::Accepted(Image {
+    Ok(Image {
         format,
         fixed: part_at(Bytes(4), fixed),
         text: part_at(Bytes(at), Bytes(s.len() - at)),

@@ -6,4 +6,3 @@ pub mod Label
 pub mod Located
 pub mod Passed
 pub mod Same
-pub mod Sizes

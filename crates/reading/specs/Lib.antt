@@ -3,4 +3,3 @@ pub mod Fields
 pub mod Held
 pub mod Label
 pub mod Same
-pub mod Sizes

@@ -2,21 +2,20 @@
 // provider's type, and the MessagePropertiesHeader's fixed bytes with the label.
 ghost use Rattle.std.specs.Prelude.{◌≡◌, true, false, cond, [], ◌^◌, ◌≤◌, ◌<◌, eqb};
 ghost use Rattle.octets.specs.Number.{le};
-ghost use Rattle.rules.specs.Refusal.{limit};
+ghost use Rattle.rules.specs.Refusal.{judged_of, limit, number_of};
 ghost use Rattle.reading.specs.Held.{held_base, held_properties_number, held_security, held_security_number, held_summary};
 
+use crate::end::end_steps;
 use crate::properties::{end_of, label_at, properties_fields};
 use crate::section::summary_of;
 use crate::security::{no_security, security_end, security_fields, security_parts, sid_byte};
-use crate::{properties, security};
 use octets::count::Bytes;
 use octets::number::{u8_at, u32_at};
 use octets::part::within;
-use rules::properties::label_contents;
-use rules::refusal;
-use rules::refusal::Refusal;
+use rules::properties::{label_contents, properties_steps};
+use rules::refusal::{Cause, Failed};
 use rules::section::Summary;
-use rules::security::{SecurityHeader, identity_head_fits};
+use rules::security::{SecurityHeader, identity_head_fits, security_steps};
 use rules::verdict::verdicts_of;
 
 // The type, 0 where there is no provider info.
@@ -29,6 +28,7 @@ fn held_type(info_size: Bytes, provider_type: &[u8]) -> u32
     u32_at(provider_type, Bytes(0))
 }
 
+#[tactic(auto, unfolding(crate::specs::Held::held_security, rules::specs::Security::security_parts))]
 fn held_security(head: &[u8], provider_type: &[u8]) -> SecurityHeader
     ensures value { result ≡ held_security head.now provider_type.now }
     ensures length_bound { result.parts.length.0 < 2 ^ 40 }
@@ -44,75 +44,72 @@ fn held_security(head: &[u8], provider_type: &[u8]) -> SecurityHeader
 }
 
 // S1 to S11, of n bytes
-fn held_security_number(n: Bytes, head: &[u8], text: bool) -> u32
-    ensures { result ≡ held_security_number n.0 true head.now text }
+#[tactic(auto, unfolding(crate::specs::Held::held_security_number, rules::specs::Security::read_security, rules::specs::Security::security_contents, rules::specs::Refusal::first_of, rules::specs::Refusal::number_of, rules::specs::Refusal::number))]
+fn held_security_steps(n: Bytes, head: &[u8], text: bool) -> Result<(), Cause>
+    ensures { number_of result ≡ held_security_number n.0 true head.now text }
 {
     if n.0 < 16 {
-        return refusal::INPUT_SHORT;
+        return Err(Cause::InputShort);
     }
     let fields = security_fields(head);
-    let number = security::sizes_number(n, fields, security_end(head));
-    if number != refusal::PASSED {
-        return number;
-    }
+    security_steps(fields)?;
+    end_steps(n, security_end(head))?;
     if !identity_head_fits(fields, within(head, Bytes(16), Bytes(2))) {
-        return refusal::IDENTITY;
+        return Err(Cause::Identity);
     }
     if !text {
-        return refusal::PROVIDER;
+        return Err(Cause::Provider);
     }
-    refusal::PASSED
+    Ok(())
 }
 
 // P1 to P7, of a header at `at` in n bytes
-fn held_properties_number(n: Bytes, at: Bytes, held: &[u8]) -> u32
+#[tactic(auto, unfolding(crate::specs::Held::held_properties_number, rules::specs::Properties::read_properties, rules::specs::Properties::properties_parts, rules::specs::Refusal::first_of, rules::specs::Refusal::number_of, rules::specs::Refusal::number))]
+fn held_properties_steps(n: Bytes, at: Bytes, held: &[u8]) -> Result<(), Cause>
     requires { at.0 ≤ limit }
-    ensures { result ≡ held_properties_number n.0 at.0 held.now }
+    ensures { number_of result ≡ held_properties_number n.0 at.0 held.now }
 {
     if n.0 < at.0 + 56 {
-        return refusal::INPUT_SHORT;
+        return Err(Cause::InputShort);
     }
     let fields = properties_fields(held, Bytes(0));
-    let number = properties::sizes_number(n, fields, end_of(fields, at));
-    if number != refusal::PASSED {
-        return number;
-    }
+    properties_steps(fields)?;
+    end_steps(n, end_of(fields, at))?;
     label_contents(label_at(held, fields, Bytes(0)))
 }
 
-// The number of the first step that fails in n bytes of which these are held, 0 where none does, and for its place the
-// header that the step looks at. `text` is whether the provider info passes S11.
+// Where the MessagePropertiesHeader begins, in n bytes of which these are held and pass every step; or the first step that
+// fails. `text` is whether the provider info passes S11. (By `match`, as `base_judge` says.)
+#[tactic(auto, unfolding(crate::specs::Held::held_base, crate::specs::Held::held_security_number, crate::specs::Held::held_start, rules::specs::Place::header_refusal, rules::specs::Refusal::judged_of, rules::specs::Refusal::number_of))]
 pub fn held_judge(
     n: Bytes,
     security_first: bool,
     head: &[u8],
     text: bool,
     properties: &[u8],
-) -> Refusal
-    ensures { result ≡ held_base n.0 security_first head.now text properties.now }
+) -> Result<Bytes, Failed>
+    ensures { judged_of result ≡ held_base n.0 security_first head.now text properties.now }
 {
-    if security_first {
-        let number = held_security_number(n, head, text);
-        if number != refusal::PASSED {
-            return Refusal {
-                number,
-                place: Bytes(0),
-            };
+    let at = if security_first {
+        if let Err(cause) = held_security_steps(n, head, text) {
+            return Err(Failed {
+                cause,
+                header: Bytes(0),
+            });
         }
-        let at = security_end(head);
-        return Refusal {
-            number: held_properties_number(n, at, properties),
-            place: at,
-        };
-    }
-    Refusal {
-        number: held_properties_number(n, Bytes(0), properties),
-        place: Bytes(0),
+        security_end(head)
+    } else {
+        Bytes(0)
+    };
+    match held_properties_steps(n, at, properties) {
+        Ok(()) => Ok(at),
+        Err(cause) => Err(Failed { cause, header: at }),
     }
 }
 
 // The summary of what is held, where a SecurityHeader stands first. Of bytes that passed every step it is the section's;
 // of any others, what their sizes say.
+#[tactic(auto, unfolding(crate::specs::Held::held_summary, crate::specs::Held::held_header))]
 pub fn held_with_security(head: &[u8], provider_type: &[u8], properties: &[u8]) -> Summary
     ensures { result ≡ held_summary true head.now provider_type.now properties.now }
 {
@@ -122,7 +119,8 @@ pub fn held_with_security(head: &[u8], provider_type: &[u8], properties: &[u8]) 
     summary_of(true, security, fields, verdicts)
 }
 
-// The same, where none does. (Two functions, so that a caller has each summary filled in place.)
+// The same, where none does. (Two functions: by the instruction counts, a caller then has each summary filled in place.)
+#[tactic(auto, unfolding(crate::specs::Held::held_summary, crate::specs::Held::held_header, rules::specs::Summary::no_security))]
 pub fn held_without_security(properties: &[u8]) -> Summary
     ensures { result ≡ held_summary false [] [] properties.now }
 {

@@ -8,18 +8,15 @@ use crate::section::base_judge;
 use crate::view::part_of;
 use octets::count::Bytes;
 use rules::layout::part;
-use rules::refusal;
 use rules::section::Part;
 
 // The section's own label; no bytes where LabelLength is 0 or reading is refused.
 pub fn label_part(s: &[u8], security_first: bool) -> Part
     ensures { result ≡ label_part (summarize security_first s.now) }
 {
-    let judged = base_judge(s, security_first);
-    if judged.number != refusal::PASSED {
+    let Ok(at) = base_judge(s, security_first) else {
         return part(Bytes(0), Bytes(0));
-    }
-    let at = judged.place;
+    };
     let fields = fields_at(s, at);
     if fields.label_length.0 == 0 {
         return part(Bytes(0), Bytes(0));

@@ -2,38 +2,29 @@
 ghost use Rattle.std.specs.Prelude.{◌≡◌, [], ◌+◌, ◌^◌, ◌≤◌, ◌<◌, drop, length};
 ghost use Rattle.rules.specs.Properties.{properties_fields, properties_length, properties_parts, properties_steps};
 ghost use Rattle.rules.specs.Reading.{properties_number};
-ghost use Rattle.rules.specs.Refusal.{limit};
+ghost use Rattle.rules.specs.Refusal.{limit, number_of};
 ghost use Rattle.rules.specs.Summary.{part_of};
 ghost use Rattle.reading.specs.Fields.{PropertiesSizes, properties_read};
-ghost use Rattle.reading.specs.Sizes.{sizes_number};
 
+use crate::end::end_steps;
 use crate::field::{u16_in, u32_in};
 use octets::count::{Bytes, Units};
 use octets::padding::padding;
 use octets::part::within;
 use rules::layout::part;
 use rules::properties::{PropertiesFields, PropertiesParts, label_contents, properties_steps};
-use rules::refusal;
-use rules::section::LIMIT;
+use rules::refusal::Cause;
 
+// All zero. (A function, since its contract is what the definition reads of no bytes.)
+#[tactic(auto, unfolding(rules::specs::Properties::properties_fields, octets::specs::Number::le))]
 fn no_fields() -> PropertiesFields
     ensures { result ≡ properties_fields [] }
 {
-    PropertiesFields {
-        flags: 0,
-        label_length: Units(0),
-        message_class: 0,
-        body_type: 0,
-        message_size: Bytes(0),
-        allocation_body_size: Bytes(0),
-        privacy_level: 0,
-        hash_algorithm: 0,
-        encryption_algorithm: 0,
-        extension_size: Bytes(0),
-    }
+    PropertiesFields::default()
 }
 
 // The fixed fields of a header that is there.
+#[tactic(auto, unfolding(rules::specs::Properties::properties_fields, octets::specs::Number::le))]
 fn fields_of(h: &[u8]) -> PropertiesFields
     requires { 56 ≤ length h.now }
     ensures value { result ≡ properties_fields h.now }
@@ -64,6 +55,7 @@ pub(crate) fn fields_at(s: &[u8], at: Bytes) -> PropertiesFields
 }
 
 // The fixed fields of the header at `at`; all zero where the 56 bytes are not all there.
+#[tactic(auto, unfolding(crate::specs::Fields::properties_read, rules::specs::Properties::properties_fields, octets::specs::Number::le, octets::specs::Part::whole))]
 pub fn properties_fields(s: &[u8], at: Bytes) -> PropertiesFields
     ensures value { result ≡ properties_read s.now at.0 }
     ensures properties_sizes { PropertiesSizes result }
@@ -79,6 +71,8 @@ pub fn properties_fields(s: &[u8], at: Bytes) -> PropertiesFields
     fields_of(header)
 }
 
+// (Sizes are bounded by clauses, here and below: the struct is C's, of any value, so it keeps no such fact.)
+#[tactic(auto, unfolding(rules::specs::Properties::properties_parts, rules::specs::Properties::extension_at, rules::specs::Properties::body_at, rules::specs::Properties::properties_length, octets::specs::Padding::padded, octets::specs::Padding::padding))]
 pub(crate) fn properties_parts(f: PropertiesFields, at: Bytes) -> PropertiesParts
     requires properties_sizes { PropertiesSizes f }
     requires at_bound { at.0 < 2 ^ 40 }
@@ -98,6 +92,7 @@ pub(crate) fn properties_parts(f: PropertiesFields, at: Bytes) -> PropertiesPart
 }
 
 // Where the section ends, its header at `at`; also above the limit.
+#[tactic(auto, unfolding(rules::specs::Properties::properties_parts))]
 pub(crate) fn end_of(f: PropertiesFields, at: Bytes) -> Bytes
     requires properties_sizes { PropertiesSizes f }
     requires at_bound { at.0 < 2 ^ 40 }
@@ -107,6 +102,7 @@ pub(crate) fn end_of(f: PropertiesFields, at: Bytes) -> Bytes
 }
 
 // The label of the header at `at`; none where it is not all there.
+#[tactic(auto, unfolding(rules::specs::Properties::properties_parts))]
 pub(crate) fn label_at(s: &[u8], f: PropertiesFields, at: Bytes) -> &[u8]
     requires { at.0 ≤ limit }
     ensures { result.now ≡ part_of s.now (properties_parts at.0 f).label }
@@ -114,35 +110,18 @@ pub(crate) fn label_at(s: &[u8], f: PropertiesFields, at: Bytes) -> &[u8]
     within(s, Bytes(at.0 + 56), f.label_length.bytes())
 }
 
-// P2 to P6, of a section that ends at `end`, in n bytes
-pub(crate) fn sizes_number(n: Bytes, f: PropertiesFields, end: Bytes) -> u32
-    ensures { result ≡ sizes_number (properties_steps f) n.0 end.0 }
-{
-    let number = properties_steps(f);
-    if number != refusal::PASSED {
-        return number;
-    }
-    if LIMIT < end.0 {
-        return refusal::ABOVE_THE_LIMIT;
-    }
-    if n.0 < end.0 {
-        return refusal::INPUT_SHORT;
-    }
-    refusal::PASSED
-}
-
 // P1 to P7
-pub(crate) fn properties_number(s: &[u8], at: Bytes) -> u32
+#[inline(always)]
+#[tactic(auto, unfolding(rules::specs::Reading::properties_number, rules::specs::Properties::read_properties, rules::specs::Refusal::first_of, rules::specs::Refusal::number_of, rules::specs::Refusal::number))]
+pub(crate) fn properties_steps_of(s: &[u8], at: Bytes) -> Result<(), Cause>
     requires { at.0 ≤ limit }
-    ensures { result ≡ properties_number s.now at.0 }
+    ensures { number_of result ≡ properties_number s.now at.0 }
 {
     if s.len() < at.0 + 56 {
-        return refusal::INPUT_SHORT;
+        return Err(Cause::InputShort);
     }
     let fields = fields_at(s, at);
-    let number = sizes_number(Bytes(s.len()), fields, end_of(fields, at));
-    if number != refusal::PASSED {
-        return number;
-    }
+    properties_steps(fields)?;
+    end_steps(Bytes(s.len()), end_of(fields, at))?;
     label_contents(label_at(s, fields, at))
 }

@@ -9,85 +9,16 @@ use crate::section::{base_judge, header_at};
 use crate::view::part_of;
 use octets::same::same;
 use rules::properties::PropertiesFields;
-use rules::refusal;
-use rules::security::{SecurityFields, SecurityHeader, provider_name};
+use rules::security::{SecurityHeader, provider_name};
 
-fn same_security(a: SecurityFields, b: SecurityFields) -> bool
-    ensures { (result ≡ true → a ≡ b) × (a ≡ b → result ≡ true) }
-{
-    if a.flags != b.flags {
-        return false;
-    }
-    if a.sender_id_size.0 != b.sender_id_size.0 {
-        return false;
-    }
-    if a.encryption_key_size.0 != b.encryption_key_size.0 {
-        return false;
-    }
-    if a.signature_size.0 != b.signature_size.0 {
-        return false;
-    }
-    if a.sender_cert_size.0 != b.sender_cert_size.0 {
-        return false;
-    }
-    if a.provider_info_size.0 != b.provider_info_size.0 {
-        return false;
-    }
-    true
-}
-
-fn same_properties(a: PropertiesFields, b: PropertiesFields) -> bool
-    ensures { (result ≡ true → a ≡ b) × (a ≡ b → result ≡ true) }
-{
-    if a.flags != b.flags {
-        return false;
-    }
-    if a.label_length.0 != b.label_length.0 {
-        return false;
-    }
-    if a.message_class != b.message_class {
-        return false;
-    }
-    if a.body_type != b.body_type {
-        return false;
-    }
-    if a.message_size.0 != b.message_size.0 {
-        return false;
-    }
-    if a.allocation_body_size.0 != b.allocation_body_size.0 {
-        return false;
-    }
-    if a.privacy_level != b.privacy_level {
-        return false;
-    }
-    if a.hash_algorithm != b.hash_algorithm {
-        return false;
-    }
-    if a.encryption_algorithm != b.encryption_algorithm {
-        return false;
-    }
-    if a.extension_size.0 != b.extension_size.0 {
-        return false;
-    }
-    true
-}
-
+// (No `==` of the whole: the parts follow from the fields, as `SameHeader` has it.)
 fn same_header(a: SecurityHeader, b: SecurityHeader) -> bool
     ensures { (result ≡ true → SameHeader a b) × (SameHeader a b → result ≡ true) }
 {
-    if !same_security(a.fields, b.fields) {
-        return false;
-    }
-    if a.sid_revision != b.sid_revision {
-        return false;
-    }
-    if a.sid_sub_authority_count != b.sid_sub_authority_count {
-        return false;
-    }
-    if a.provider_type != b.provider_type {
-        return false;
-    }
-    true
+    a.fields == b.fields
+        && a.sid_revision == b.sid_revision
+        && a.sid_sub_authority_count == b.sid_sub_authority_count
+        && a.provider_type == b.provider_type
 }
 
 // Label and provider name, by content.
@@ -111,10 +42,7 @@ fn same_contents(
         return false;
     }
     let name = provider_name(part_of(a, g.parts.provider_info));
-    if !same(name, provider_name(part_of(b, h.parts.provider_info))) {
-        return false;
-    }
-    true
+    same(name, provider_name(part_of(b, h.parts.provider_info)))
 }
 
 // The summaries of two sections that passed every step.
@@ -131,13 +59,7 @@ fn same_accepted(a: &[u8], b: &[u8], security_first: bool) -> bool
     }
     let p = fields_at(a, g.parts.length);
     let q = fields_at(b, h.parts.length);
-    if !same_properties(p, q) {
-        return false;
-    }
-    if !same_contents(a, g, p, b, h, q) {
-        return false;
-    }
-    true
+    p == q && same_contents(a, g, p, b, h, q)
 }
 
 // Whether both inputs are accepted, with the same summary, label and provider name by content. By demand 3 that is
@@ -146,10 +68,10 @@ pub fn same_summary(a: &[u8], b: &[u8], security_first: bool) -> bool
     ensures { (result ≡ true → SameSummary security_first a.now b.now)
         × (SameSummary security_first a.now b.now → result ≡ true) }
 {
-    if base_judge(a, security_first).number != refusal::PASSED {
+    if base_judge(a, security_first).is_err() {
         return false;
     }
-    if base_judge(b, security_first).number != refusal::PASSED {
+    if base_judge(b, security_first).is_err() {
         return false;
     }
     same_accepted(a, b, security_first)

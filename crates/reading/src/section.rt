@@ -3,28 +3,29 @@ ghost use Rattle.std.specs.Prelude.{◌≡◌, ◌+◌, ◌^◌, ◌≤◌, ◌<
 ghost use Rattle.octets.specs.Number.{le};
 ghost use Rattle.rules.specs.Properties.{properties_fields, properties_parts};
 ghost use Rattle.rules.specs.Reading.{base_judge, header_at, judge, read, security_number, start_at, summarize, summary_at};
+ghost use Rattle.rules.specs.Refusal.{judged_of, number, number_of, refusal};
 ghost use Rattle.rules.specs.Summary.{section_of, summary_of, verdicts_of};
 ghost use Rattle.reading.specs.Case.{judged_once, reading_case};
 ghost use Rattle.reading.specs.Fields.{PropertiesSizes, start_read};
 
 use crate::field::u32_in;
 use crate::properties::{
-    fields_at, label_at, properties_fields, properties_number, properties_parts,
+    fields_at, label_at, properties_fields, properties_parts, properties_steps_of,
 };
 use crate::security::{
-    header_length, no_security, provider_info, security_fields, security_header, security_number,
+    header_length, no_security, provider_info, security_fields, security_header, security_steps_of,
 };
 use octets::count::Bytes;
 use rules::layout::part;
 use rules::place::section_refusal;
 use rules::properties::PropertiesFields;
-use rules::refusal;
-use rules::refusal::Refusal;
-use rules::section::{Reading, Section, Summarized, Summary};
+use rules::refusal::{Cause, Failed, Refusal};
+use rules::section::{Section, Summary};
 use rules::security::{SecurityHeader, security_length};
 use rules::verdict::{Verdicts, verdicts_of};
 
 // Where the MessagePropertiesHeader of an accepted section begins; at most one byte above the limit, on any input.
+#[tactic(auto, unfolding(crate::specs::Fields::start_read))]
 pub fn properties_start(s: &[u8], security_first: bool) -> Bytes
     ensures { result.0 ≡ start_read security_first s.now }
 {
@@ -35,16 +36,19 @@ pub fn properties_start(s: &[u8], security_first: bool) -> Bytes
 }
 
 // S1 to S11, where a SecurityHeader stands first.
-fn header_number(s: &[u8], security_first: bool) -> u32
-    ensures { result ≡ security_number security_first s.now }
+#[inline(always)]
+#[tactic(auto, unfolding(rules::specs::Reading::security_number, rules::specs::Refusal::number_of, rules::specs::Refusal::number))]
+fn header_steps(s: &[u8], security_first: bool) -> Result<(), Cause>
+    ensures { number_of result ≡ security_number security_first s.now }
 {
     if security_first {
-        return security_number(s);
+        return security_steps_of(s);
     }
-    refusal::PASSED
+    Ok(())
 }
 
 // Where the MessagePropertiesHeader begins, once S1 to S11 have passed.
+#[tactic(auto, unfolding(rules::specs::Reading::start_at, rules::specs::Reading::header_at, rules::specs::Summary::no_security))]
 fn start_at(s: &[u8], security_first: bool) -> Bytes
     requires { security_number security_first s.now ≡ 0 }
     ensures { result.0 ≡ start_at security_first s.now }
@@ -55,36 +59,38 @@ fn start_at(s: &[u8], security_first: bool) -> Bytes
     Bytes(0)
 }
 
-// The number of the first step that fails in the section at the input's first byte, 0 where none does, and for its place
-// the header that the step looks at. The caller says whether a SecurityHeader stands first. (A small answer: what was
-// read is made from the bytes once they have passed, and the field that failed is looked for where they have not.)
-pub fn base_judge(s: &[u8], security_first: bool) -> Refusal
-    ensures { result ≡ base_judge security_first s.now }
+// Where the MessagePropertiesHeader begins of a section, at the input's first byte, that passes every step, or the first
+// step that fails. The caller says whether a SecurityHeader stands first. (A small answer: what was read is made from the
+// bytes once they have passed, and the field that failed is looked for where they have not. By `map_err` and `?` two goals
+// stayed open.)
+#[inline(always)]
+#[tactic(auto, unfolding(rules::specs::Reading::base_judge, rules::specs::Place::header_refusal, rules::specs::Refusal::judged_of, rules::specs::Refusal::number_of))]
+pub fn base_judge(s: &[u8], security_first: bool) -> Result<Bytes, Failed>
+    ensures { judged_of result ≡ base_judge security_first s.now }
 {
-    let number = header_number(s, security_first);
-    if number != refusal::PASSED {
-        return Refusal {
-            number,
-            place: Bytes(0),
-        };
+    if let Err(cause) = header_steps(s, security_first) {
+        return Err(Failed {
+            cause,
+            header: Bytes(0),
+        });
     }
     let at = start_at(s, security_first);
-    Refusal {
-        number: properties_number(s, at),
-        place: at,
+    match properties_steps_of(s, at) {
+        Ok(()) => Ok(at),
+        Err(cause) => Err(Failed { cause, header: at }),
     }
 }
 
-// The refusal of what was judged so, its place that of the field that failed.
-fn placed(s: &[u8], security_first: bool, judged: Refusal) -> Refusal
-    requires { judged ≡ base_judge security_first s.now }
+// The refusal of a step that failed so, its place that of the field that failed.
+fn placed(s: &[u8], security_first: bool, failed: Failed) -> Refusal
+    requires { refusal (number failed.cause) failed.header.0 ≡ base_judge security_first s.now }
     ensures { result ≡ judge security_first s.now }
 {
-    let at = judged.place;
+    let at = failed.header;
     let security = security_fields(s);
     let label = label_at(s, properties_fields(s, at), at);
     section_refusal(
-        judged.number,
+        failed.cause.number(),
         at,
         security_first,
         security,
@@ -93,32 +99,22 @@ fn placed(s: &[u8], security_first: bool, judged: Refusal) -> Refusal
     )
 }
 
-// The refusal, its place that of the field that failed.
-pub fn judge(s: &[u8], security_first: bool) -> Refusal
-    ensures { result ≡ judge security_first s.now }
-{
-    placed(s, security_first, base_judge(s, security_first))
-}
-
-// Where the MessagePropertiesHeader of a section begins that passed every step; or the refusal.
-#[derive(Clone, Copy)]
-pub enum Judged {
-    Passed(Bytes),
-    Refused(Refusal),
-}
-
-// Each step is made once, for a refused section too.
-pub fn judge_once(s: &[u8], security_first: bool) -> Judged
+// Where the MessagePropertiesHeader begins of a section that passes every step, or the refusal, its place that of the field
+// that failed. Each step is made once, for a refused section too.
+#[inline(always)]
+#[tactic(auto, unfolding(rules::specs::Refusal::judged_of))]
+pub fn judge(s: &[u8], security_first: bool) -> Result<Bytes, Refusal>
     ensures { result ≡ judged_once security_first s.now }
 {
-    let judged = base_judge(s, security_first);
-    let start = judged.place;
-    if judged.number != refusal::PASSED {
-        return Judged::Refused(placed(s, security_first, judged));
+    match base_judge(s, security_first) {
+        Ok(at) => Ok(at),
+        Err(failed) => Err(placed(s, security_first, failed)),
     }
-    Judged::Passed(start)
 }
 
+// (That the input passed stays a clause, as the input and `security_first` stay two parameters: of a struct of the three,
+// `security_header` would still ask that a SecurityHeader stands first, and each clause would name two of its fields.)
+#[tactic(auto, unfolding(rules::specs::Reading::header_at))]
 pub(crate) fn header_at(s: &[u8], security_first: bool) -> SecurityHeader
     requires { (judge security_first s.now).number ≡ 0 }
     ensures { result ≡ header_at security_first s.now }
@@ -129,6 +125,7 @@ pub(crate) fn header_at(s: &[u8], security_first: bool) -> SecurityHeader
     no_security()
 }
 
+#[tactic(auto, unfolding(rules::specs::Summary::summary_of))]
 pub(crate) fn summary_of(
     security_first: bool,
     security: SecurityHeader,
@@ -192,22 +189,19 @@ fn section_of(
 }
 
 // The summary, or the refusal.
-pub fn summarize(s: &[u8], security_first: bool) -> Summarized
+#[tactic(auto, unfolding(rules::specs::Reading::summarize, crate::specs::Case::judged_once))]
+pub fn summarize(s: &[u8], security_first: bool) -> Result<Summary, Refusal>
     ensures { result ≡ summarize security_first s.now }
 {
-    let judged = base_judge(s, security_first);
-    if judged.number != refusal::PASSED {
-        return Summarized::Refused(placed(s, security_first, judged));
-    }
+    judge(s, security_first)?;
     let header = header_at(s, security_first);
     let section = section_of(s, security_first, header, section_verdicts(s, header));
-    let summary = section.summary;
-    Summarized::Accepted(summary)
+    Ok(section.summary)
 }
 
 // The full reading. A section with a SecurityHeader and one without are cases by themselves, so that a caller that fills
-// an answer has each filled in place: where the two meet, every number of the section is held in between. (That is so
-// for one caller in an archive: a second would have the function called, and its answer moved.)
+// an answer has each filled in place: by the instruction counts, where the two meet every number of the section is held
+// in between. (That is so for one caller in an archive: a second would have the function called, and its answer moved.)
 #[derive(Clone, Copy)]
 pub enum ReadingCase {
     WithSecurity(Section),
@@ -215,12 +209,12 @@ pub enum ReadingCase {
     Refused(Refusal),
 }
 
+#[tactic(auto, unfolding(rules::specs::Reading::summarize, rules::specs::Reading::read, crate::specs::Case::judged_once, crate::specs::Case::reading_case))]
 pub fn reading_case(s: &[u8], security_first: bool) -> ReadingCase
     ensures { result ≡ reading_case security_first (read security_first s.now) }
 {
-    let judged = base_judge(s, security_first);
-    if judged.number != refusal::PASSED {
-        return ReadingCase::Refused(placed(s, security_first, judged));
+    if let Err(refused) = judge(s, security_first) {
+        return ReadingCase::Refused(refused);
     }
     if security_first {
         let header = security_header(s);
@@ -233,12 +227,13 @@ pub fn reading_case(s: &[u8], security_first: bool) -> ReadingCase
 }
 
 // The full reading: the summary, CorrelationID and ApplicationTag. Each part's bytes are had by `view::part_of`.
-pub fn read(s: &[u8], security_first: bool) -> Reading
+#[tactic(auto, unfolding(crate::specs::Case::reading_case))]
+pub fn read(s: &[u8], security_first: bool) -> Result<Section, Refusal>
     ensures { result ≡ read security_first s.now }
 {
     match reading_case(s, security_first) {
-        ReadingCase::WithSecurity(section) => Reading::Accepted(section),
-        ReadingCase::WithoutSecurity(section) => Reading::Accepted(section),
-        ReadingCase::Refused(refused) => Reading::Refused(refused),
+        ReadingCase::WithSecurity(section) => Ok(section),
+        ReadingCase::WithoutSecurity(section) => Ok(section),
+        ReadingCase::Refused(refused) => Err(refused),
     }
 }

@@ -3,57 +3,41 @@ ghost use Rattle.std.specs.Prelude.{◌≡◌, true, cond, ◌+◌, ◌%◌, ◌
 ghost use Rattle.octets.specs.Number.{le};
 ghost use Rattle.octets.specs.Padding.{padded};
 ghost use Rattle.rules.specs.Reading.{header_at, judge, security_number, start_at};
+ghost use Rattle.rules.specs.Refusal.{number_of};
 ghost use Rattle.rules.specs.Security.{provider_text, security_contents, security_fields, security_length, security_parts, security_steps};
 ghost use Rattle.rules.specs.Summary.{no_security, part_of};
 ghost use Rattle.reading.specs.Fields.{SecuritySizes, security_read};
-ghost use Rattle.reading.specs.Sizes.{sizes_number};
 
+use crate::end::end_steps;
 use crate::field::{u16_in, u32_in};
 use octets::count::Bytes;
 use octets::padding::padding;
 use octets::part::within;
 use rules::layout::part;
-use rules::refusal;
-use rules::section::{LIMIT, Part};
+use rules::refusal::Cause;
+use rules::section::Part;
 use rules::security::{
     AU, SecurityFields, SecurityHeader, SecurityParts, security_contents, security_steps,
 };
 
+// All zero. (A function, as the next, since its contract names the definition.)
+#[tactic(auto, unfolding(rules::specs::Summary::no_security))]
 fn no_fields() -> SecurityFields
     ensures { result ≡ no_security.fields }
 {
-    SecurityFields {
-        flags: 0,
-        sender_id_size: Bytes(0),
-        encryption_key_size: Bytes(0),
-        signature_size: Bytes(0),
-        sender_cert_size: Bytes(0),
-        provider_info_size: Bytes(0),
-    }
+    SecurityFields::default()
 }
 
 // Where no SecurityHeader stands first: every number is 0.
+#[tactic(auto, unfolding(rules::specs::Summary::no_security))]
 pub fn no_security() -> SecurityHeader
     ensures { result ≡ no_security }
 {
-    let none = part(Bytes(0), Bytes(0));
-    SecurityHeader {
-        fields: no_fields(),
-        parts: SecurityParts {
-            sender_id: none,
-            encryption_key: none,
-            signature: none,
-            sender_cert: none,
-            provider_info: none,
-            length: Bytes(0),
-        },
-        sid_revision: 0,
-        sid_sub_authority_count: 0,
-        provider_type: 0,
-    }
+    SecurityHeader::default()
 }
 
 // The fixed fields of a header that is there.
+#[tactic(auto, unfolding(rules::specs::Security::security_fields))]
 fn fields_of(s: &[u8]) -> SecurityFields
     requires { 16 ≤ length s.now }
     ensures value { result ≡ security_fields s.now }
@@ -70,6 +54,7 @@ fn fields_of(s: &[u8]) -> SecurityFields
 }
 
 // The fixed fields; all zero where the 16 bytes are not all there.
+#[tactic(auto, unfolding(crate::specs::Fields::security_read, rules::specs::Security::security_fields, rules::specs::Summary::no_security, octets::specs::Number::le, octets::specs::Part::whole))]
 pub fn security_fields(s: &[u8]) -> SecurityFields
     ensures value { result ≡ security_read s.now }
     ensures security_sizes { SecuritySizes result }
@@ -81,6 +66,7 @@ pub fn security_fields(s: &[u8]) -> SecurityFields
 }
 
 // Where a part of `size` bytes from `start` ends, with its padding.
+#[tactic(auto, unfolding(octets::specs::Padding::padded, octets::specs::Padding::padding))]
 fn behind(start: Bytes, size: Bytes) -> Bytes
     requires start_bound { start.0 < 2 ^ 40 }
     requires size_bound { size.0 < 2 ^ 32 }
@@ -90,6 +76,8 @@ fn behind(start: Bytes, size: Bytes) -> Bytes
     Bytes(start.0 + size.0 + padding(size).0)
 }
 
+// (Sizes are bounded by clauses, here and below: the struct is C's, of any value, so it keeps no such fact.)
+#[tactic(auto, unfolding(rules::specs::Security::security_parts, rules::specs::Security::key_at, rules::specs::Security::signature_at, rules::specs::Security::cert_at, rules::specs::Security::provider_at, rules::specs::Security::security_length))]
 pub(crate) fn security_parts(f: SecurityFields) -> SecurityParts
     requires { SecuritySizes f }
     ensures { result ≡ security_parts f }
@@ -109,6 +97,7 @@ pub(crate) fn security_parts(f: SecurityFields) -> SecurityParts
     }
 }
 
+#[tactic(auto, unfolding(rules::specs::Security::security_parts))]
 fn length_of(f: SecurityFields) -> Bytes
     requires { SecuritySizes f }
     ensures { result.0 ≡ security_length f }
@@ -124,9 +113,9 @@ pub fn security_end(s: &[u8]) -> Bytes
 }
 
 // S10 and S11
-fn contents_number(s: &[u8], f: SecurityFields) -> u32
+fn contents_steps(s: &[u8], f: SecurityFields) -> Result<(), Cause>
     requires { SecuritySizes f }
-    ensures { result ≡ security_contents f (part_of s.now (security_parts f).sender_id)
+    ensures { number_of result ≡ security_contents f (part_of s.now (security_parts f).sender_id)
         (provider_text (part_of s.now (security_parts f).provider_info)) }
 {
     let parts = security_parts(f);
@@ -135,37 +124,18 @@ fn contents_number(s: &[u8], f: SecurityFields) -> u32
     security_contents(f, identity, info)
 }
 
-// S2 to S9, of a header of `length` bytes in n. (The length is handed in: so its sum is shared with what else the caller
-// makes of it.)
-pub(crate) fn sizes_number(n: Bytes, f: SecurityFields, length: Bytes) -> u32
-    ensures { result ≡ sizes_number (security_steps f) n.0 length.0 }
-{
-    let number = security_steps(f);
-    if number != refusal::PASSED {
-        return number;
-    }
-    if LIMIT < length.0 {
-        return refusal::ABOVE_THE_LIMIT;
-    }
-    if n.0 < length.0 {
-        return refusal::INPUT_SHORT;
-    }
-    refusal::PASSED
-}
-
 // S1 to S11
-pub(crate) fn security_number(s: &[u8]) -> u32
-    ensures { result ≡ security_number true s.now }
+#[tactic(auto, unfolding(rules::specs::Reading::security_number, rules::specs::Security::read_security, rules::specs::Security::security_contents, rules::specs::Refusal::first_of, rules::specs::Refusal::number_of, rules::specs::Refusal::number))]
+pub(crate) fn security_steps_of(s: &[u8]) -> Result<(), Cause>
+    ensures { number_of result ≡ security_number true s.now }
 {
     if s.len() < 16 {
-        return refusal::INPUT_SHORT;
+        return Err(Cause::InputShort);
     }
     let fields = fields_of(s);
-    let number = sizes_number(Bytes(s.len()), fields, length_of(fields));
-    if number != refusal::PASSED {
-        return number;
-    }
-    contents_number(s, fields)
+    security_steps(fields)?;
+    end_steps(Bytes(s.len()), length_of(fields))?;
+    contents_steps(s, fields)
 }
 
 // The provider info of the header at the input's first byte; none where it is not all there.

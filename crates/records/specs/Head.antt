@@ -1,18 +1,18 @@
 -- 01, the listing program's file: "per record the mark 0x57 0x52, one byte 1 or 0 for security first, one zero byte, a 4-byte length
 -- up to 32,768, the section".
 use Rattle.std.specs.Prelude.{ℕ, ◌-◌, not, cond, List, ◌∷◌, length, get_or, take, drop, eqb, ltb}
+use Rattle.records.specs.declared.head.Next.TheVariants.{End, Found, Stop}
+use Rattle.records.specs.declared.head.Next.{Next}
 use Rattle.octets.specs.Number.{le, to_le}
 use Rattle.rules.specs.Refusal.{bytes}
 use Rattle.records.specs.declared.head.Head.{Head}
-use Rattle.records.specs.declared.head.NextHead.{NextHead}
-use Rattle.records.specs.declared.head.NextHead.TheVariants.{End, Stop, Found}
 
 -- the head's length of the section
 unfoldable pub section_size : List ℕ → ℕ
 section_size s = le 4 s 4
 
 -- the head at the first byte of what is left of the file: no byte is the end; "A wrong or cut record head, or a cut section, ends it with `stop`"
-unfoldable pub next_head : List ℕ → NextHead
+unfoldable pub next_head : List ℕ → Next Head
 next_head s =
     cond (eqb (length s) 0) End
     (cond (ltb (length s) 8) Stop  -- cut head

@@ -1,14 +1,13 @@
 -- 01, the lines that the listing program prints, as ASCII codes: columns with a space between them, a newline at the end.
-use Rattle.std.specs.Prelude.{ℕ, List, [], ◌∷◌, ◌++◌, length, take}
+use Rattle.std.specs.Prelude.{Err, Ok, Result, ℕ, List, [], ◌∷◌, ◌++◌, length, take}
+use Rattle.octets.specs.declared.count.Bytes.{Bytes}
+use Rattle.rules.specs.declared.refusal.Refusal.{Refusal}
 use Rattle.rules.specs.Output.{writer_answer, writer_output}
 use Rattle.rules.specs.Refusal.{refusal}
-use Rattle.rules.specs.declared.section.Output.{Output}
 use Rattle.records.specs.Decimal.{decimal}
 use Rattle.records.specs.declared.record.Line.{Line}
 use Rattle.records.specs.declared.line.Row.{Row}
 use Rattle.records.specs.declared.line.Row.TheVariants.{Header, Record, End, Stop}
-use Rattle.records.specs.declared.record.Answer.{Answer}
-use Rattle.records.specs.declared.record.Answer.TheVariants.{Accepted, Refused}
 
 unfoldable pub line : List (List ℕ) → List ℕ
 line [] = 10 ∷ []
@@ -37,15 +36,15 @@ unfoldable pub sizes_bytes : Line → List ℕ
 sizes_bytes l = line (sizes l)
 
 -- "record number, answer, class, units of label, extension bytes, body bytes, section length, in decimal; or number, refused, refusal, place"
-unfoldable pub line_bytes : ℕ → Answer → List ℕ
-line_bytes number (Accepted l) =
+unfoldable pub line_bytes : ℕ → Result Line Refusal → List ℕ
+line_bytes number (Ok l) =
     line
     (decimal number
     ∷ (111 ∷ 107 ∷ [])  -- ok
     ∷ decimal l.message_class
     ∷ decimal l.label_length.0
     ∷ sizes l)
-line_bytes number (Refused r) =
+line_bytes number (Err r) =
     line
     (decimal number
     ∷ (114 ∷ 101 ∷ 102 ∷ 117 ∷ 115 ∷ 101 ∷ 100 ∷ [])  -- refused
@@ -73,7 +72,7 @@ unfoldable pub with_line : Row → ℕ → List ℕ → List ℕ
 with_line row used out = take used out ++ row_bytes row
 
 -- what is answered where it is to be written over that output, and what the output then holds: 13 where it is longer
-unfoldable pub append_answer : Row → ℕ → List ℕ → Output
+unfoldable pub append_answer : Row → ℕ → List ℕ → Result Bytes Refusal
 append_answer row used out = writer_answer (refusal 0 0) (length (with_line row used out)) out
 
 unfoldable pub append_bytes : Row → ℕ → List ℕ → List ℕ

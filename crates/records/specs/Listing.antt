@@ -1,12 +1,13 @@
 -- 01, all that the listing program prints for a file.
 use Rattle.std.specs.Prelude.{ℕ, zero, suc, List, [], ◌++◌, length, drop}
+use Rattle.records.specs.declared.head.Next.TheVariants.{End, Found, Stop}
+use Rattle.records.specs.declared.head.Next.{Next}
+use Rattle.records.specs.declared.record.Record.{Record}
 use Rattle.records.specs.Line.{end_line, header_line, line_bytes, stop_line}
 use Rattle.records.specs.Record.{next_record}
-use Rattle.records.specs.declared.record.Next.{Next}
-use Rattle.records.specs.declared.record.Next.TheVariants.{End, Stop, Found}
 
 -- the lines from a record on, given those for what lies behind it
-unfoldable pub lines_of : ℕ → List ℕ → (List ℕ → List ℕ) → Next → List ℕ
+unfoldable pub lines_of : ℕ → List ℕ → (List ℕ → List ℕ) → Next Record → List ℕ
 lines_of number s behind End = end_line number
 lines_of number s behind Stop = stop_line number
 lines_of number s behind (Found r) = line_bytes number r.answer ++ behind (drop r.size.0 s)

@@ -1,23 +1,20 @@
 -- 01, a record of the listing program's file: its head, and what the listing says of its section.
-use Rattle.std.specs.Prelude.{ℕ, ◌+◌, List}
+use Rattle.std.specs.Prelude.{Err, Ok, Result, ℕ, ◌+◌, List}
+use Rattle.records.specs.declared.head.Next.TheVariants.{End, Found, Stop}
+use Rattle.records.specs.declared.head.Next.{Next}
+use Rattle.records.specs.declared.record.Line.{Line}
+use Rattle.rules.specs.declared.refusal.Refusal.{Refusal}
+use Rattle.rules.specs.declared.section.Summary.{Summary}
 use Rattle.rules.specs.Reading.{summarize}
 use Rattle.rules.specs.Refusal.{bytes}
-use Rattle.rules.specs.declared.section.Summarized.{Summarized}
-use Rattle.rules.specs.declared.section.Summarized.TheVariants.{Accepted as Summarized-as-Accepted, Refused as Summarized-as-Refused}
 use Rattle.records.specs.Head.{next_head, section_behind}
 use Rattle.records.specs.declared.head.Head.{Head}
-use Rattle.records.specs.declared.head.NextHead.{NextHead}
-use Rattle.records.specs.declared.head.NextHead.TheVariants.{End as NextHead-as-End, Stop as NextHead-as-Stop, Found as NextHead-as-Found}
-use Rattle.records.specs.declared.record.Answer.{Answer}
-use Rattle.records.specs.declared.record.Answer.TheVariants.{Accepted, Refused}
-use Rattle.records.specs.declared.record.Next.{Next}
-use Rattle.records.specs.declared.record.Next.TheVariants.{End, Stop, Found}
 use Rattle.records.specs.declared.record.Record.{Record}
 
 -- "class, units of label, extension bytes, body bytes, section length"; "or .. refusal, place"
-unfoldable pub answer_of : Summarized → Answer
-answer_of (Summarized-as-Accepted m) =
-    Accepted
+unfoldable pub answer_of : Result Summary Refusal → Result Line Refusal
+answer_of (Ok m) =
+    Ok
     (record {
       message_class = m.properties.message_class;
       label_length = m.properties.label_length;
@@ -25,7 +22,7 @@ answer_of (Summarized-as-Accepted m) =
       message_size = m.properties.message_size;
       section_length = m.parts.section_length;
     })
-answer_of (Summarized-as-Refused r) = Refused r
+answer_of (Err r) = Err r
 
 -- the record behind a head
 abbrev pub record_of : List ℕ → Head → Record
@@ -37,11 +34,11 @@ record_of s h =
     }
 
 -- where one was found
-unfoldable pub record_behind : List ℕ → NextHead → Next
-record_behind s NextHead-as-End = End
-record_behind s NextHead-as-Stop = Stop
-record_behind s (NextHead-as-Found h) = Found (record_of s h)
+unfoldable pub record_behind : List ℕ → Next Head → Next Record
+record_behind s End = End
+record_behind s Stop = Stop
+record_behind s (Found h) = Found (record_of s h)
 
 -- the record at the first byte of what is left of the file
-unfoldable pub next_record : List ℕ → Next
+unfoldable pub next_record : List ℕ → Next Record
 next_record s = record_behind s (next_head s)

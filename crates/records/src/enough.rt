@@ -9,12 +9,10 @@ use octets::count::Bytes;
 const LARGEST: usize = HEAD + LONGEST;
 
 // Whether the `held` bytes from a record's first one decide it; `is_over` where the file ends with them.
+#[tactic(auto, using(crate::proofs::Laws::Enough::enough), unfolding(crate::specs::Enough::is_enough))]
 pub fn is_enough(held: Bytes, is_over: bool) -> bool
     ensures value { result ≡ is_enough held.0 is_over }
     ensures decides { result ≡ true → Decides held.0 is_over }
 {
-    if is_over {
-        return true;
-    }
-    LARGEST <= held.0
+    is_over || LARGEST <= held.0
 }

@@ -1,5 +1,5 @@
 // The head of a record of the listing program's file: 8 bytes, and the section behind them.
-ghost use Rattle.std.specs.Prelude.{◌≡◌, cond};
+ghost use Rattle.std.specs.Prelude.{◌≡◌};
 ghost use Rattle.records.specs.Head.{head_bytes, next_head};
 
 use octets::count::Bytes;
@@ -17,63 +17,44 @@ pub struct Head {
     pub length: Bytes,
 }
 
-// `End` where the file ends behind a whole record, `Stop` at a wrong or cut head or a cut section.
+// The next head or record of a file: `End` where the file ends behind a whole record, `Stop` at a wrong or cut head or a cut
+// section.
 #[derive(Clone, Copy)]
-pub enum NextHead {
+pub enum Next<T> {
     End,
     Stop,
-    Found(Head),
+    Found(T),
 }
 
 // The head at the first byte of `s`, the rest of the file.
-pub fn next_head(s: &[u8]) -> NextHead
+#[tactic(auto, unfolding(crate::specs::Head::next_head, crate::specs::Head::section_size))]
+pub fn next_head(s: &[u8]) -> Next<Head>
     ensures { result ≡ next_head s.now }
 {
-    if s.len() == 0 {
-        return NextHead::End;
+    if s.is_empty() {
+        return Next::End;
     }
-    if s.len() < HEAD {
-        return NextHead::Stop;
-    }
-    if s[0] != 0x57 {
-        return NextHead::Stop;
-    }
-    if s[1] != 0x52 {
-        return NextHead::Stop;
-    }
-    if 1 < s[2] {
-        return NextHead::Stop;
-    }
-    if s[3] != 0 {
-        return NextHead::Stop;
-    }
+    let [0x57, 0x52, first @ 0..=1, 0, _, _, _, _, section @ ..] = s else {
+        return Next::Stop;
+    };
     let length = u32_at(s, Bytes(4)) as usize;
     if LONGEST < length {
-        return NextHead::Stop;
+        return Next::Stop;
     }
-    if s.len() - HEAD < length {
-        return NextHead::Stop;
+    if section.len() < length {
+        return Next::Stop;
     }
-    NextHead::Found(Head {
-        security_first: s[2] == 1,
+    Next::Found(Head {
+        security_first: *first == 1,
         length: Bytes(length),
     })
-}
-
-fn security_byte(security_first: bool) -> u8
-    ensures { result ≡ cond security_first 1 0 }
-{
-    if security_first {
-        return 1;
-    }
-    0
 }
 
 // A head as its bytes. Of a length that does not fit its four bytes the rest is cut off.
 pub fn head_bytes(head: Head) -> [u8; 8]
     ensures { result ≡ head_bytes head }
 {
-    let first = security_byte(head.security_first);
+    let first = u8::from(head.security_first);
     let length = u32_bytes((head.length.0 % 4294967296) as u32);
     [
         0x57, 0x52, first, 0, length[0], length[1], length[2], length[3],

@@ -1,27 +1,23 @@
 -- 01, "A section carries every defaulted value (..) but ..", and C-18: the properties of a section that was read, what it does not carry
 -- marked as not known.
-use Rattle.std.specs.Prelude.{ℕ, ◌-◌, Bool, cond, eqb, ltb}
+use Rattle.std.specs.Prelude.{None, Option, Some, ℕ, ◌-◌, Bool, cond, eqb, ltb}
+use Rattle.requests.specs.declared.properties.SenderValues.{SenderValues}
 use Rattle.octets.specs.declared.count.Bytes.{Bytes}
 use Rattle.rules.specs.Security.{DE, EB, ST}
 use Rattle.rules.specs.declared.section.Section.{Section}
 use Rattle.rules.specs.declared.security.SecurityFields.{SecurityFields}
-use Rattle.requests.specs.declared.properties.Handling.TheVariants.{NotKnown as Handling-as-NotKnown}
 use Rattle.requests.specs.declared.properties.Privacy.{Privacy}
 use Rattle.requests.specs.declared.properties.Privacy.TheVariants.{Packet, Request}
 use Rattle.requests.specs.declared.properties.Properties.{Properties}
-use Rattle.requests.specs.declared.properties.ProviderType.{ProviderType}
-use Rattle.requests.specs.declared.properties.ProviderType.TheVariants.{Known as ProviderType-as-Known, NotKnown as ProviderType-as-NotKnown}
-use Rattle.requests.specs.declared.properties.Sender.{Sender}
-use Rattle.requests.specs.declared.properties.Sender.TheVariants.{Known as Sender-as-Known, NotKnown as Sender-as-NotKnown}
 
 -- "sender kind, default provider and encryption only in a SecurityHeader"
-unfoldable pub section_sender : Bool → SecurityFields → Sender
+unfoldable pub section_sender : Bool → SecurityFields → Option SenderValues
 section_sender first f =
-    cond first (Sender-as-Known (record { kind = ST f; default_provider = eqb (DE f) 1; encryption = eqb (EB f) 1 })) Sender-as-NotKnown
+    cond first (Some (record { kind = ST f; default_provider = eqb (DE f) 1; encryption = eqb (EB f) 1 })) None
 
 -- "provider type and name only in provider info"
-unfoldable pub section_provider_type : Bytes → ℕ → ProviderType
-section_provider_type info type = cond (eqb info.0 0) ProviderType-as-NotKnown (ProviderType-as-Known type)
+unfoldable pub section_provider_type : Bytes → ℕ → Option ℕ
+section_provider_type info type = cond (eqb info.0 0) None (Some type)
 
 -- "The packet's privacy is 0, 1 or 3 for a request's 0, 1 or 2": any other level of a packet is no request's
 unfoldable pub request_privacy : ℕ → Privacy
@@ -32,7 +28,7 @@ section_properties s =
     let m = s.summary in
     let f = m.properties in
     record {
-      handling = Handling-as-NotKnown;
+      handling = None;
       sender = section_sender m.security_first m.security.fields;
       provider_type = section_provider_type m.security.fields.provider_info_size m.security.provider_type;
       message_class = f.message_class;
@@ -52,9 +48,9 @@ section_properties s =
 unfoldable pub carried : (secured info_written : Bool) → Properties → Properties
 carried secured info_written p =
     record {
-      handling = Handling-as-NotKnown;
-      sender = cond secured p.sender Sender-as-NotKnown;
-      provider_type = cond info_written p.provider_type ProviderType-as-NotKnown;
+      handling = None;
+      sender = cond secured p.sender None;
+      provider_type = cond info_written p.provider_type None;
       message_class = p.message_class;
       acknowledge = p.acknowledge;
       application_tag = p.application_tag;

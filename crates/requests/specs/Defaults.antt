@@ -1,92 +1,75 @@
 -- 01, "Send requests": the defaulted values, each of what it looks at: the request's values, and the parts beside them.
-use Rattle.std.specs.Prelude.{ℕ, ◌-◌, Bool, not, ◌&&◌, cond, List, [], ◌∷◌, length, take, drop, replicate, eqb}
+use Rattle.std.specs.Prelude.{None, Option, Some, ℕ, ◌-◌, Bool, not, ◌&&◌, cond, List, [], ◌∷◌, length, take, drop, replicate, unwrap_or, eqb}
+use Rattle.octets.specs.declared.count.Bytes.{Bytes}
+use Rattle.requests.specs.declared.properties.HandlingValues.{HandlingValues}
 use Rattle.rules.specs.Refusal.{bytes}
-use Rattle.requests.specs.Request.{SendRequest, value_or}
-use Rattle.requests.specs.declared.properties.Handling.{Handling}
-use Rattle.requests.specs.declared.properties.Handling.TheVariants.{Known as Handling-as-Known}
+use Rattle.requests.specs.Request.{SendRequest}
 use Rattle.requests.specs.declared.properties.Privacy.TheVariants.{Request as Privacy-as-Request}
 use Rattle.requests.specs.declared.properties.Properties.{Properties}
-use Rattle.requests.specs.declared.properties.ProviderType.TheVariants.{Known as ProviderType-as-Known}
-use Rattle.requests.specs.declared.properties.Sender.{Sender}
-use Rattle.requests.specs.declared.properties.Sender.TheVariants.{Known as Sender-as-Known}
 use Rattle.requests.specs.declared.properties.SenderValues.{SenderValues}
-use Rattle.requests.specs.declared.request.Body.{Body}
-use Rattle.requests.specs.declared.request.Body.TheVariants.{Absent as Body-as-Absent, Given as Body-as-Given}
-use Rattle.requests.specs.declared.request.Correlation.{Correlation}
-use Rattle.requests.specs.declared.request.Correlation.TheVariants.{Absent as Correlation-as-Absent, Given as Correlation-as-Given}
 use Rattle.requests.specs.declared.request.Request.{Request}
-use Rattle.requests.specs.declared.request.Number.{Number}
-use Rattle.requests.specs.declared.request.Number.TheVariants.{Absent, Given}
 
 -- "An absent value gets: priority 3, and 0 for trace, delivery, auditing, class, acknowledge, tag, privacy, hash, encryption algorithm,
 -- body type, provider type"
 abbrev pub priority : Request → ℕ
-priority v = value_or 3 v.priority
+priority v = unwrap_or v.priority 3
 
 abbrev pub trace : Request → ℕ
-trace v = value_or 0 v.trace
+trace v = unwrap_or v.trace 0
 
 -- the delivery that step 1 looks at
 abbrev pub delivery_given : Request → ℕ
-delivery_given v = value_or 0 v.delivery
+delivery_given v = unwrap_or v.delivery 0
 
 abbrev pub auditing : Request → ℕ
-auditing v = value_or 0 v.auditing
+auditing v = unwrap_or v.auditing 0
 
 abbrev pub class : Request → ℕ
-class v = value_or 0 v.message_class
+class v = unwrap_or v.message_class 0
 
 abbrev pub acknowledge : Request → ℕ
-acknowledge v = value_or 0 v.acknowledge
+acknowledge v = unwrap_or v.acknowledge 0
 
 abbrev pub tag : Request → ℕ
-tag v = value_or 0 v.application_tag
+tag v = unwrap_or v.application_tag 0
 
 abbrev pub privacy : Request → ℕ
-privacy v = value_or 0 v.privacy_level
+privacy v = unwrap_or v.privacy_level 0
 
 abbrev pub hash : Request → ℕ
-hash v = value_or 0 v.hash_algorithm
+hash v = unwrap_or v.hash_algorithm 0
 
 abbrev pub encryption_algorithm : Request → ℕ
-encryption_algorithm v = value_or 0 v.encryption_algorithm
+encryption_algorithm v = unwrap_or v.encryption_algorithm 0
 
 abbrev pub body_type : Request → ℕ
-body_type v = value_or 0 v.body_type
+body_type v = unwrap_or v.body_type 0
 
 abbrev pub provider_type : Request → ℕ
-provider_type v = value_or 0 v.provider_type
+provider_type v = unwrap_or v.provider_type 0
 
 -- step 3: "absent kind counts as 0"
 abbrev pub kind : Request → ℕ
-kind v = value_or 0 v.sender_kind
+kind v = unwrap_or v.sender_kind 0
 
 -- "correlation is 20 zero bytes"
-unfoldable pub correlation_or : List ℕ → Correlation → List ℕ
-correlation_or given Correlation-as-Absent = replicate 20 0
-correlation_or given Correlation-as-Given = given
-
-abbrev pub correlation_of : Request → List ℕ → List ℕ
-correlation_of v given = correlation_or given v.correlation
+abbrev pub correlation_of : Request → List ℕ
+correlation_of v = unwrap_or v.correlation_id (replicate 20 0)
 
 -- "A transaction makes delivery 1, but only after step 1."
 unfoldable pub delivery : Request → ℕ
 delivery v = cond v.transaction 1 (delivery_given v)
 
 -- "an absent body has size and allocation 0"
-unfoldable pub body_or : List ℕ → Body → List ℕ
-body_or given Body-as-Absent = []
-body_or given (Body-as-Given allocation) = given
-
-unfoldable pub allocation_or : Body → ℕ
-allocation_or Body-as-Absent = 0
-allocation_or (Body-as-Given allocation) = allocation.0
+unfoldable pub body_or : List ℕ → Option Bytes → List ℕ
+body_or given None = []
+body_or given (Some allocation) = given
 
 abbrev pub body_of : Request → List ℕ → List ℕ
 body_of v given = body_or given v.body
 
 abbrev pub allocation : Request → ℕ
-allocation v = allocation_or v.body
+allocation v = (unwrap_or v.body (bytes 0)).0
 
 -- C-18: "A time to queue of 0 becomes 0xFFFFFFFF (002); any other, and time to live, is passed on as given"
 unfoldable pub or_largest : ℕ → ℕ
@@ -111,9 +94,9 @@ unfoldable pub title_of : List ℕ → List ℕ
 title_of us = take 249 (before_zero us)
 
 -- step 5: "the signature is the last (split number minus name length) bytes"; where the split number is absent, all of it
-unfoldable pub signature_count : ℕ → ℕ → Number → ℕ
-signature_count given name_length Absent = given
-signature_count given name_length (Given split) = split - name_length
+unfoldable pub signature_count : ℕ → ℕ → Option ℕ → ℕ
+signature_count given name_length None = given
+signature_count given name_length (Some split) = split - name_length
 
 abbrev pub count : Request → ℕ → ℕ
 count v given = signature_count given v.provider_name_length v.split_number
@@ -122,9 +105,9 @@ unfoldable pub signature_of : Request → List ℕ → List ℕ
 signature_of v given = drop (length given - count v (length given)) given
 
 -- the groups of the defaulted properties
-unfoldable pub handling_of : Request → Handling
+unfoldable pub handling_of : Request → Option HandlingValues
 handling_of v =
-    Handling-as-Known
+    Some
     (record {
       priority = priority v;
       trace = trace v;
@@ -141,15 +124,15 @@ handling_of v =
 abbrev pub sender_values : Request → List ℕ → SenderValues
 sender_values v key = record { kind = kind v; default_provider = v.default_provider; encryption = encryption v key }
 
-unfoldable pub sender_of : Request → List ℕ → Sender
-sender_of v key = Sender-as-Known (sender_values v key)
+unfoldable pub sender_of : Request → List ℕ → Option SenderValues
+sender_of v key = Some (sender_values v key)
 
 unfoldable pub properties_of : Request → List ℕ → List ℕ → List ℕ → List ℕ → Properties
 properties_of v title key signature body =
     record {
       handling = handling_of v;
       sender = sender_of v key;
-      provider_type = ProviderType-as-Known (provider_type v);
+      provider_type = Some (provider_type v);
       message_class = class v;
       acknowledge = acknowledge v;
       application_tag = tag v;

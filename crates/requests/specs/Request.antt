@@ -1,9 +1,8 @@
 -- 01, "Send requests (002)": a request, its parts beside its numbers and marks.
-use Rattle.std.specs.Prelude.{ℕ, Bool, true, false, List}
-use Rattle.octets.specs.Lent.{Held, Lent}
-use Rattle.requests.specs.declared.request.Number.{Number}
-use Rattle.requests.specs.declared.request.Number.TheVariants.{Absent, Given}
+use Rattle.std.specs.Prelude.{ℕ, List}
+use Rattle.octets.specs.Lent.{Lent}
 use Rattle.requests.specs.declared.request.Request.{Request}
+use Rattle.requests.specs.declared.request.RequestGiven.{RequestGiven}
 
 -- title and provider name in 16-bit units, all other parts in bytes
 pub record SendRequest : Type 0 where
@@ -17,31 +16,32 @@ pub record SendRequest : Type 0 where
   pub extension : List ℕ
   pub body : List ℕ
 
--- the request of a call, out of the call's parameters: as the call begins, and as an `ensures` has them
-abbrev pub held_request : Request → Held → Held → Held → Held → Held → Held → Held → Held → SendRequest
-held_request values title sender_id encryption_key signature sender_cert provider_name extension body =
+-- the request that is given
+abbrev pub send_request : RequestGiven → SendRequest
+send_request g =
     record {
-      values = values;
-      title = title.now;
-      sender_id = sender_id.now;
-      encryption_key = encryption_key.now;
-      signature = signature.now;
-      sender_cert = sender_cert.now;
-      provider_name = provider_name.now;
-      extension = extension.now;
-      body = body.now;
+      values = g.request;
+      title = g.title.now;
+      sender_id = g.sender_id.now;
+      encryption_key = g.encryption_key.now;
+      signature = g.signature.now;
+      sender_cert = g.sender_cert.now;
+      provider_name = g.provider_name.now;
+      extension = g.extension.now;
+      body = g.body.now;
     }
 
-abbrev pub send_request : Request → Lent → Lent → Lent → Lent → Lent → Lent → Lent → Lent → SendRequest
-send_request values title sender_id encryption_key signature sender_cert provider_name extension body =
-    held_request values title.entry sender_id.entry encryption_key.entry signature.entry sender_cert.entry
-    provider_name.entry extension.entry body.entry
-
--- "An absent value gets .."
-unfoldable pub value_or : ℕ → Number → ℕ
-value_or default Absent = default
-value_or default (Given n) = n
-
-unfoldable pub is_given : Number → Bool
-is_given Absent = false
-is_given (Given n) = true
+-- and that of a call from C, out of the call's parameters
+abbrev pub lent_request : Request → Lent → Lent → Lent → Lent → Lent → Lent → Lent → Lent → SendRequest
+lent_request values title sender_id encryption_key signature sender_cert provider_name extension body =
+    record {
+      values = values;
+      title = title.entry.now;
+      sender_id = sender_id.entry.now;
+      encryption_key = encryption_key.entry.now;
+      signature = signature.entry.now;
+      sender_cert = sender_cert.entry.now;
+      provider_name = provider_name.entry.now;
+      extension = extension.entry.now;
+      body = body.entry.now;
+    }

@@ -1,22 +1,19 @@
 -- 01, "Send requests", "Order": the steps, each of what it looks at, that of C-21 among them, and what the first that fails gives.
-use Rattle.std.specs.Prelude.{ℕ, Bool, true, false, not, ◌&&◌, ◌||◌, cond, List, [], ◌∷◌, ◌++◌, length, eqb, ltb}
+use Rattle.std.specs.Prelude.{Err, Ok, Option, Result, Some, is_some, ⊤, ℕ, Bool, true, not, ◌&&◌, ◌||◌, cond, List, [], ◌∷◌, ◌++◌, length, eqb, ltb}
+use Rattle.std.specs.Option.{option_eq}
+use Rattle.rules.specs.declared.refusal.Refusal.{Refusal}
 use Rattle.rules.specs.Listed.{classes, listed, retired_hashes}
 use Rattle.rules.specs.Properties.{bad_allocation}
-use Rattle.rules.specs.Refusal.{bytes, limit, refusal}
+use Rattle.rules.specs.Refusal.{bytes, limit, number, refusal}
+use Rattle.rules.specs.declared.refusal.Cause.{Cause}
 use Rattle.rules.specs.Security.{identity_head, identity_size, part_too_large}
-use Rattle.rules.specs.declared.refusal.Checked.{Checked}
-use Rattle.rules.specs.declared.refusal.Checked.TheVariants.{Passed, Refused}
 use Rattle.rules.specs.declared.security.SecurityFields.{SecurityFields}
 use Rattle.requests.specs.Defaults.{acknowledge, allocation, auditing, class, count, delivery_given, hash, kind, priority, privacy, trace}
 use Rattle.requests.specs.Defaults.{body_of, properties, signature_of}
-use Rattle.requests.specs.Request.{SendRequest, is_given}
+use Rattle.requests.specs.Request.{SendRequest}
 use Rattle.requests.specs.Section.{section_length, signed}
-use Rattle.requests.specs.declared.properties.Defaulted.{Defaulted}
-use Rattle.requests.specs.declared.properties.Defaulted.TheVariants.{Properties as Defaulted-as-Properties, Refused as Defaulted-as-Refused}
 use Rattle.requests.specs.declared.properties.Properties.{Properties}
 use Rattle.requests.specs.declared.request.Request.{Request}
-use Rattle.requests.specs.declared.request.Number.{Number}
-use Rattle.requests.specs.declared.request.Number.TheVariants.{Absent, Given}
 
 -- 1: "Priority above 7, trace or delivery above 1, acknowledge above 15, or auditing above 3"
 unfoldable pub out_of_range : Request → Bool
@@ -28,10 +25,10 @@ unfoldable pub direct_privacy : Request → Bool
 direct_privacy v = v.direct_queue && not (eqb (privacy v) 0)
 
 unfoldable pub algorithm_missing : Request → Bool
-algorithm_missing v = is_given v.privacy_level && not (is_given v.encryption_algorithm)
+algorithm_missing v = is_some v.privacy_level && not (is_some v.encryption_algorithm)
 
 unfoldable pub hash_missing : Request → List ℕ → Bool
-hash_missing v signature = signed signature && not (is_given v.hash_algorithm)
+hash_missing v signature = signed signature && not (is_some v.hash_algorithm)
 
 -- C-21: "retired privacy, then retired hash where the request is signed"
 unfoldable pub retired_request : Request → List ℕ → Bool
@@ -56,9 +53,8 @@ identity_fails v identity =
     || not (identity_head (identity_fields (kind v) (length identity)) identity)
 
 -- 4: "default provider needs type 1 present; another needs a name of 1 to 1,024 units without zero"
-unfoldable pub is_one : Number → Bool
-is_one Absent = false
-is_one (Given n) = eqb n 1
+abbrev pub is_one : Option ℕ → Bool
+is_one n = option_eq eqb n (Some 1)
 
 unfoldable pub without_zero : List ℕ → Bool
 without_zero [] = true
@@ -75,7 +71,7 @@ provider_fails v signature name =
 unfoldable pub split_fails : Request → List ℕ → Bool
 split_fails v signature =
     signed signature
-    && is_given v.split_number
+    && is_some v.split_number
     && (ltb (count v (length signature)) 1 || ltb (length signature) (count v (length signature)))
 
 -- 6: "Key, signature as cut by 5, or certificate above 65,535 bytes"
@@ -112,22 +108,26 @@ from25 q =
 unfoldable pub steps : SendRequest → List (Bool × ℕ)
 steps q = up_to24 q ++ ((retired_request q.values q.signature, 29) ∷ from25 q)
 
--- a request is refused at place 0
-abbrev pub refused : ℕ → Checked
-refused number = Refused (refusal number 0)
+-- a request is refused at place 0, for a cause by its number
+abbrev pub refused : ℕ → Result ⊤ Refusal
+refused number = Err (refusal number 0)
+
+unfoldable pub refused_by : Result ⊤ Cause → Result ⊤ Refusal
+refused_by (Ok tt) = (Ok tt)
+refused_by (Err c) = refused (number c)
 
 -- "The first step that fails gives the refusal."
-unfoldable pub first_failure : List (Bool × ℕ) → Checked
-first_failure [] = Passed
+unfoldable pub first_failure : List (Bool × ℕ) → Result ⊤ Refusal
+first_failure [] = (Ok tt)
 first_failure (s ∷ ss) = cond s.0 (refused s.1) (first_failure ss)
 
-unfoldable pub request_steps : SendRequest → Checked
+unfoldable pub request_steps : SendRequest → Result ⊤ Refusal
 request_steps q = first_failure (steps q)
 
 -- what the one function that makes the defaulted properties answers
-unfoldable pub answer_of : Properties → Checked → Defaulted
-answer_of p Passed = Defaulted-as-Properties p
-answer_of p (Refused r) = Defaulted-as-Refused r
+unfoldable pub answer_of : Properties → Result ⊤ Refusal → Result Properties Refusal
+answer_of p (Ok tt) = Ok p
+answer_of p (Err r) = Err r
 
-unfoldable pub defaulted : SendRequest → Defaulted
+unfoldable pub defaulted : SendRequest → Result Properties Refusal
 defaulted q = answer_of (properties q) (request_steps q)

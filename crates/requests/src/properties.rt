@@ -1,7 +1,6 @@
 // The properties of a message, one type for everyone: made from a request, each absent value with its default, or from
 // a section that was read. They stand in the groups in which a section carries them or does not; what it does not carry
 // is not known. Of title and signature they say how much there is: where it lies is no property of the message.
-use crate::request::Number;
 use octets::count::{Bytes, Units};
 use rules::refusal::Refusal;
 
@@ -14,17 +13,11 @@ pub struct HandlingValues {
     pub auditing: u32,
     pub transaction: bool,
     pub direct_queue: bool,
-    pub split_number: Number,
+    pub split_number: Option<u32>,
     pub provider_name_length: u32,
     // in seconds
     pub time_to_queue: u32,
     pub time_to_live: u32,
-}
-
-#[derive(Clone, Copy)]
-pub enum Handling {
-    Known(HandlingValues),
-    NotKnown,
 }
 
 // What only a SecurityHeader carries.
@@ -35,20 +28,8 @@ pub struct SenderValues {
     pub encryption: bool,
 }
 
-#[derive(Clone, Copy)]
-pub enum Sender {
-    Known(SenderValues),
-    NotKnown,
-}
-
-// What only provider info carries.
-#[derive(Clone, Copy)]
-pub enum ProviderType {
-    Known(u32),
-    NotKnown,
-}
-
 // A request's privacy, 0, 1 or 2, which a packet holds as 0, 1 or 3, or a packet's level that no request's becomes.
+// (Both are levels: neither case is an error or an absence.)
 #[derive(Clone, Copy)]
 pub enum Privacy {
     Request(u32),
@@ -57,9 +38,9 @@ pub enum Privacy {
 
 #[derive(Clone, Copy)]
 pub struct Properties {
-    pub handling: Handling,
-    pub sender: Sender,
-    pub provider_type: ProviderType,
+    pub handling: Option<HandlingValues>,
+    pub sender: Option<SenderValues>,
+    pub provider_type: Option<u32>,
     pub message_class: u32,
     pub acknowledge: u32,
     pub application_tag: u32,
@@ -73,10 +54,4 @@ pub struct Properties {
     pub title: Units,
     // how many bytes of the signature are kept, the last of those given
     pub signature: Bytes,
-}
-
-#[derive(Clone, Copy)]
-pub enum Defaulted {
-    Properties(Properties),
-    Refused(Refusal),
 }

@@ -3,54 +3,39 @@ ghost use Rattle.std.specs.Prelude.{◌≡◌, length};
 ghost use Rattle.requests.specs.Defaults.{allocation, body_of};
 ghost use Rattle.requests.specs.Section.{security_first};
 
-use crate::request::{Body, Request};
-use crate::signature::kept_bytes;
+use crate::request::{Request, RequestGiven};
 use octets::count::Bytes;
 
-// An absent body is empty, whatever is lent.
-pub fn body_size(request: Request, body: &[u8]) -> Bytes
-    ensures { result.0 ≡ length (body_of request body.now) }
-{
-    let given = request.body;
-    match given {
-        Body::Absent => Bytes(0),
-        Body::Given(_) => Bytes(body.len()),
+impl Request {
+    // An absent body has allocation 0.
+    pub fn allocation(&self) -> Bytes
+        ensures { result.0 ≡ allocation self.now }
+    {
+        self.body.unwrap_or(Bytes(0))
     }
 }
 
-// An absent body has allocation 0.
-pub fn allocation_of(request: Request) -> Bytes
-    ensures { result.0 ≡ allocation request }
-{
-    let given = request.body;
-    match given {
-        Body::Absent => Bytes(0),
-        Body::Given(allocation) => allocation,
+impl RequestGiven<'_> {
+    // An absent body is empty, whatever is lent.
+    #[tactic(auto, unfolding(crate::specs::Defaults::body_or))]
+    pub fn body_size(&self) -> Bytes
+        ensures { result.0 ≡ length (body_of self.now.request self.now.body.now) }
+    {
+        match self.request.body {
+            None => Bytes(0),
+            Some(_) => Bytes(self.body.len()),
+        }
     }
-}
 
-// Whether a SecurityHeader is written.
-pub fn security_first(
-    request: Request,
-    sender_id: &[u8],
-    encryption_key: &[u8],
-    signature: &[u8],
-    sender_cert: &[u8],
-) -> bool
-    ensures { result ≡ security_first request sender_id.now encryption_key.now
-        signature.now sender_cert.now }
-{
-    if sender_id.len() != 0 {
-        return true;
+    // Whether a SecurityHeader is written.
+    #[tactic(auto, unfolding(crate::specs::Section::security_first))]
+    pub fn security_first(&self) -> bool
+        ensures { result ≡ security_first self.now.request self.now.sender_id.now self.now.encryption_key.now
+            self.now.signature.now self.now.sender_cert.now }
+    {
+        !self.sender_id.is_empty()
+            || !self.encryption_key.is_empty()
+            || self.kept_bytes().0 != 0
+            || !self.sender_cert.is_empty()
     }
-    if encryption_key.len() != 0 {
-        return true;
-    }
-    if kept_bytes(request, signature).0 != 0 {
-        return true;
-    }
-    if sender_cert.len() != 0 {
-        return true;
-    }
-    false
 }

@@ -2,34 +2,30 @@
 ghost use Rattle.std.specs.Prelude.{◌≡◌, length};
 ghost use Rattle.requests.specs.Defaults.{count, signature_of};
 
-use crate::request::{Number, Request};
+use crate::request::{Request, RequestGiven};
 use octets::count::Bytes;
 
-// The count of step 5, of so many bytes given. A name longer than the split number leaves none.
-pub fn signature_count(request: Request, given: Bytes) -> Bytes
-    ensures { result.0 ≡ count request given.0 }
-{
-    let split = request.split_number;
-    let name = request.provider_name_length;
-    match split {
-        Number::Absent => given,
-        Number::Given(n) => {
-            if n < name {
-                return Bytes(0);
-            }
-            Bytes((n - name) as usize)
+impl Request {
+    // The count of step 5, of so many bytes given. A name longer than the split number leaves none.
+    #[tactic(auto, unfolding(crate::specs::Defaults::signature_count))]
+    pub fn signature_count(&self, given: Bytes) -> Bytes
+        ensures { result.0 ≡ count self.now given.0 }
+    {
+        match self.split_number {
+            None => given,
+            Some(split) => Bytes(split.saturating_sub(self.provider_name_length) as usize),
         }
     }
 }
 
-// How many bytes of the signature are kept.
-pub fn kept_bytes(request: Request, signature: &[u8]) -> Bytes
-    ensures { result.0 ≡ length (signature_of request signature.now) }
-{
-    let given = signature.len();
-    let count = signature_count(request, Bytes(given));
-    if given < count.0 {
-        return Bytes(given);
+impl RequestGiven<'_> {
+    // How many bytes of the signature are kept.
+    #[tactic(auto, unfolding(crate::specs::Defaults::signature_of))]
+    pub fn kept_bytes(&self) -> Bytes
+        ensures { result.0 ≡ length (signature_of self.now.request self.now.signature.now) }
+    {
+        let given = self.signature.len();
+        let count = self.request.signature_count(Bytes(given));
+        Bytes(given.min(count.0))
     }
-    count
 }

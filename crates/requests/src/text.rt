@@ -6,15 +6,15 @@ ghost use Rattle.requests.specs.Steps.{name_fits, without_zero};
 
 use octets::count::Units;
 
+const KEPT: usize = 249;
+
 // Whether no unit is zero. No early exit, so that the loop becomes vector code.
 fn without_zero(units: &[u16]) -> bool
     ensures { result ≡ without_zero units.now }
 {
     let mut none = true;
-    let mut i = 0;
-    while i < units.len() {
-        none &= units[i] != 0;
-        i += 1;
+    for unit in units {
+        none &= *unit != 0;
     }
     none
 }
@@ -27,24 +27,18 @@ fn before_zero(units: &[u16]) -> Units
     if without_zero(units) {
         return Units(units.len() as u32);
     }
-    let mut i = 0;
-    while i < units.len() {
-        if units[i] == 0 {
-            return Units(i as u32);
-        }
-        i += 1;
-    }
-    Units(i as u32)
+    let count = units
+        .iter()
+        .position(|unit| *unit == 0)
+        .unwrap_or(units.len());
+    Units(count as u32)
 }
 
 // How many units of a title are kept: those before the first zero, and of these 249, so that 250 hold them with a null.
 pub fn kept_units(title: &[u16]) -> Units
     ensures { result.0 ≡ length (title_of title.now) }
 {
-    if title.len() <= 249 {
-        return before_zero(title);
-    }
-    before_zero(&title[..249])
+    before_zero(&title[..KEPT.min(title.len())])
 }
 
 // LabelLength: the units kept of a title and the null, or 0 where none is kept.
@@ -59,14 +53,9 @@ pub fn label_units(title: &[u16]) -> Units
 }
 
 // Step 4: a name of 1 to 1,024 units without zero.
+#[tactic(auto, unfolding(crate::specs::Steps::name_fits))]
 pub fn name_fits(name: &[u16]) -> bool
     ensures { result ≡ name_fits name.now }
 {
-    if name.len() == 0 {
-        return false;
-    }
-    if 1024 < name.len() {
-        return false;
-    }
-    without_zero(name)
+    !name.is_empty() && name.len() <= 1024 && without_zero(name)
 }

@@ -2,6 +2,7 @@ pub mod Accepted
 pub mod Amended
 pub mod AmendedPlaces
 pub mod Bits
+pub mod Cause
 pub mod Fixed
 pub mod Judged
 pub mod Layout

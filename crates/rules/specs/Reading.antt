@@ -1,5 +1,6 @@
 -- 01, "Reading, step by step". The first step that fails gives the refusal; its place, by C-17, is the first byte of the field that failed.
-use Rattle.std.specs.Prelude.{ℕ, ◌≡◌, Bool, cond, List, length, get_or, drop, eqb}
+use Rattle.std.specs.Prelude.{Err, Ok, Result, ℕ, ◌≡◌, Bool, cond, List, length, get_or, drop, eqb}
+use Rattle.rules.specs.declared.section.Section.{Section}
 use Rattle.octets.specs.Number.{le}
 use Rattle.rules.specs.Place.{header_refusal, name_break, section_refusal}
 use Rattle.rules.specs.Properties.{properties_fields, properties_parts, read_properties}
@@ -7,10 +8,6 @@ use Rattle.rules.specs.Security.{ST, provider_text, read_security, security_fiel
 use Rattle.rules.specs.Summary.{part_of, no_security, summary_of, label_of, provider_name_of, section_of}
 use Rattle.rules.specs.declared.properties.PropertiesFields.{PropertiesFields}
 use Rattle.rules.specs.declared.refusal.Refusal.{Refusal}
-use Rattle.rules.specs.declared.section.Reading.{Reading}
-use Rattle.rules.specs.declared.section.Reading.TheVariants.{Accepted as Reading-as-Accepted, Refused as Reading-as-Refused}
-use Rattle.rules.specs.declared.section.Summarized.{Summarized}
-use Rattle.rules.specs.declared.section.Summarized.TheVariants.{Accepted, Refused}
 use Rattle.rules.specs.declared.section.Summary.{Summary}
 use Rattle.rules.specs.declared.security.SecurityHeader.{SecurityHeader}
 use Rattle.rules.specs.declared.security.SecurityParts.{SecurityParts}
@@ -70,29 +67,29 @@ unfoldable pub base_judge : Bool → List ℕ → Refusal
 base_judge first s = header_refusal (security_number first s) (properties_number s (start_at first s)) (start_at first s)
 
 -- the summary, or the refusal
-unfoldable pub summarize : Bool → List ℕ → Summarized
-summarize first s = cond (eqb (judge first s).number 0) (Accepted (summary_at first s)) (Refused (judge first s))
+unfoldable pub summarize : Bool → List ℕ → Result Summary Refusal
+summarize first s = cond (eqb (judge first s).number 0) (Ok (summary_at first s)) (Err (judge first s))
 
-unfoldable pub full_reading : List ℕ → Summarized → Reading
-full_reading s (Accepted m) = Reading-as-Accepted (section_of m s)
-full_reading s (Refused r) = Reading-as-Refused r
+unfoldable pub full_reading : List ℕ → Result Summary Refusal → Result Section Refusal
+full_reading s (Ok m) = Ok (section_of m s)
+full_reading s (Err r) = Err r
 
 -- the full reading, or the refusal
-unfoldable pub read : Bool → List ℕ → Reading
+unfoldable pub read : Bool → List ℕ → Result Section Refusal
 read first s = full_reading s (summarize first s)
 
 -- "Two summaries are the same when all of this is equal": both inputs are accepted, with one summary, label and provider name by content
 pub record SameSummary (first : Bool) (s t : List ℕ) : Type 0 where
   pub summary : Summary
-  pub left : summarize first s ≡ Accepted summary
-  pub right : summarize first t ≡ Accepted summary
+  pub left : summarize first s ≡ Ok summary
+  pub right : summarize first t ≡ Ok summary
   pub label : label_of summary s ≡ label_of summary t
   pub provider_name : provider_name_of summary s ≡ provider_name_of summary t
 
 -- "For display, the label shown is the section's own part, or the lent stand-in text where LabelLength is 0 or reading is refused"
-unfoldable pub label_or : List ℕ → List ℕ → Summarized → List ℕ
-label_or s stand_in (Accepted m) = cond (eqb m.properties.label_length.0 0) stand_in (label_of m s)
-label_or s stand_in (Refused r) = stand_in
+unfoldable pub label_or : List ℕ → List ℕ → Result Summary Refusal → List ℕ
+label_or s stand_in (Ok m) = cond (eqb m.properties.label_length.0 0) stand_in (label_of m s)
+label_or s stand_in (Err r) = stand_in
 
 unfoldable pub label_shown : Bool → List ℕ → List ℕ → List ℕ
 label_shown first s stand_in = label_or s stand_in (summarize first s)

@@ -8,6 +8,7 @@ use octets::count::Bytes;
 use octets::padding::padding;
 
 // A size with its padding.
+#[tactic(auto, unfolding(octets::specs::Padding::padded, octets::specs::Padding::padding))]
 pub(crate) fn padded(size: Bytes) -> Bytes
     requires { size.0 < 2 ^ 32 }
     ensures result_value { result.0 ≡ padded 4 size.0 }
@@ -19,10 +20,7 @@ pub(crate) fn padded(size: Bytes) -> Bytes
 pub(crate) fn larger(a: Bytes, b: Bytes) -> Bytes
     ensures { result.0 ≡ max a.0 b.0 }
 {
-    if a.0 < b.0 {
-        return b;
-    }
-    a
+    Bytes(a.0.max(b.0))
 }
 
 pub fn part(start: Bytes, length: Bytes) -> Part

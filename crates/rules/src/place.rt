@@ -4,8 +4,7 @@ ghost use Rattle.rules.specs.Place.{name_break, name_place, properties_place, re
 ghost use Rattle.rules.specs.Refusal.{limit};
 ghost use Rattle.rules.specs.Security.{provider_at};
 
-use crate::refusal;
-use crate::refusal::Refusal;
+use crate::refusal::{Cause, Refusal};
 use crate::section::LIMIT;
 use crate::security::{DP, SecurityFields, provider_name, security_length, security_steps};
 use octets::count::{Bytes, smaller};
@@ -16,68 +15,69 @@ pub fn provider_at(f: SecurityFields) -> Bytes
     ensures { result.0 ≡ min (limit + 1) (provider_at f) }
 {
     security_length(SecurityFields {
-        flags: f.flags,
-        sender_id_size: Bytes(f.sender_id_size.0),
-        encryption_key_size: Bytes(f.encryption_key_size.0),
-        signature_size: Bytes(f.signature_size.0),
-        sender_cert_size: Bytes(f.sender_cert_size.0),
         provider_info_size: Bytes(0),
+        ..f
     })
 }
 
 // The first unit of the provider's name that breaks the rule.
+#[tactic(auto, unfolding(crate::specs::Place::name_break, crate::specs::Place::name_place))]
 fn name_place(f: SecurityFields, info: &[u8]) -> Bytes
     ensures { result.0 ≡ name_place (min (limit + 1) (provider_at f)) (name_break info.now) }
 {
     Bytes(provider_at(f).0 + 4 + first_break(provider_name(info)).0)
 }
 
-// Where the field of an S step begins.
+// Where the field of an S step begins. (By number: `section_refusal` answers for any.)
+#[tactic(auto, unfolding(crate::specs::Place::security_place, crate::specs::Refusal::number))]
 fn security_place(number: u32, f: SecurityFields, info: &[u8]) -> Bytes
     ensures { result.0 ≡ security_place number f (min (limit + 1) (provider_at f)) (name_break info.now) }
 {
-    if number == refusal::EMPTY_OR_DP_CLEAR {
+    if number == Cause::EmptyOrDpClear.number() {
         if f.flags / DP % 2 == 0 {
             return Bytes(0);
         }
         return Bytes(2);
     }
-    if number == refusal::CERTIFICATE_SIZE {
+    if number == Cause::CertificateSize.number() {
         return Bytes(8);
     }
-    if number == refusal::IDENTITY {
+    if number == Cause::Identity.number() {
         return Bytes(2);
     }
-    if number == refusal::PROVIDER {
-        if security_steps(f) == refusal::PASSED {
+    let is_provider = number == Cause::Provider.number();
+    if is_provider {
+        if security_steps(f).is_ok() {
             return name_place(f, info);
         }
-        return Bytes(0);
     }
     Bytes(0)
 }
 
-// Where the field of a P step begins, counted from the header's first byte.
+// Where the field of a P step begins, counted from the header's first byte. (By number too.)
+#[tactic(auto, unfolding(crate::specs::Place::properties_place, crate::specs::Refusal::number))]
 fn properties_place(number: u32, label: &[u8]) -> Bytes
     ensures result_value { result.0 ≡ properties_place number label.now }
     ensures result_bound { result.0 ≤ 56 + length label.now }
 {
-    if number == refusal::LABEL_LENGTH {
+    if number == Cause::LabelLength.number() {
         return Bytes(1);
     }
-    if number == refusal::CLASS {
+    if number == Cause::Class.number() {
         return Bytes(2);
     }
-    if number == refusal::ALLOCATION {
+    if number == Cause::Allocation.number() {
         return Bytes(36);
     }
-    if number == refusal::LABEL {
+    if number == Cause::Label.number() {
         return Bytes(56 + first_break(label).0);
     }
     Bytes(0)
 }
 
 // The refusal by a number of the header at `at`: of the SecurityHeader, where one stands first and `at` is 0.
+// (Public, and its parameters are those of the definition `refusal_at`.)
+#[tactic(auto, unfolding(crate::specs::Place::refusal_at, crate::specs::Place::properties_refusal))]
 pub fn section_refusal(
     number: u32,
     at: Bytes,

@@ -1,11 +1,11 @@
 // MessagePropertiesHeader: its fields, its parts, where the section ends, and the steps P2 to P4 and P7.
 ghost use Rattle.std.specs.Prelude.{◌≡◌, ◌+◌, min};
 ghost use Rattle.rules.specs.Properties.{bad_allocation, label_contents, properties_length, properties_steps};
-ghost use Rattle.rules.specs.Refusal.{limit};
+ghost use Rattle.rules.specs.Refusal.{limit, number_of};
 
 use crate::class::is_listed;
 use crate::layout::{larger, padded};
-use crate::refusal;
+use crate::refusal::Cause;
 use crate::section::{LIMIT, Part};
 use octets::count::{Bytes, Units};
 use octets::text::is_text;
@@ -15,7 +15,7 @@ pub const LABEL_UNITS: u32 = 250;
 
 // The judged fields of the 56 fixed bytes. Of Flags the low four bits: the four X bits are private.
 #[repr(C)]
-#[derive(Clone, Copy)]
+#[derive(Clone, Copy, PartialEq, Eq, Debug, Default)]
 pub struct PropertiesFields {
     pub flags: u8,
     pub label_length: Units,
@@ -31,7 +31,7 @@ pub struct PropertiesFields {
 
 // The three parts, and the section's length with the padding at its end.
 #[repr(C)]
-#[derive(Clone, Copy)]
+#[derive(Clone, Copy, PartialEq, Eq, Debug, Default)]
 pub struct PropertiesParts {
     pub label: Part,
     pub extension: Part,
@@ -47,19 +47,20 @@ pub fn bad_allocation(message_size: Bytes, allocation: Bytes) -> bool
 }
 
 // P2 to P4
-pub fn properties_steps(f: PropertiesFields) -> u32
-    ensures { result ≡ properties_steps f }
+#[tactic(auto, unfolding(crate::specs::Properties::properties_steps, crate::specs::Refusal::number_of, crate::specs::Refusal::number))]
+pub fn properties_steps(f: PropertiesFields) -> Result<(), Cause>
+    ensures { number_of result ≡ properties_steps f }
 {
     if LABEL_UNITS < f.label_length.0 {
-        return refusal::LABEL_LENGTH;
+        return Err(Cause::LabelLength);
     }
     if !is_listed(f.message_class) {
-        return refusal::CLASS;
+        return Err(Cause::Class);
     }
     if bad_allocation(f.message_size, f.allocation_body_size) {
-        return refusal::ALLOCATION;
+        return Err(Cause::Allocation);
     }
-    refusal::PASSED
+    Ok(())
 }
 
 // Where the section ends, its MessagePropertiesHeader at `at`, but at most one byte above the limit, so that no sum
@@ -81,14 +82,15 @@ pub fn section_end(f: PropertiesFields, at: Bytes) -> Bytes
 }
 
 // P7
-pub fn label_contents(label: &[u8]) -> u32
-    ensures { result ≡ label_contents label.now }
+#[tactic(auto, unfolding(crate::specs::Properties::label_contents, crate::specs::Properties::label_text, crate::specs::Refusal::number_of, crate::specs::Refusal::number))]
+pub fn label_contents(label: &[u8]) -> Result<(), Cause>
+    ensures { number_of result ≡ label_contents label.now }
 {
     if label.len() == 0 {
-        return refusal::PASSED;
+        return Ok(());
     }
     if !is_text(label) {
-        return refusal::LABEL;
+        return Err(Cause::Label);
     }
-    refusal::PASSED
+    Ok(())
 }

@@ -1,85 +1,133 @@
-// Refusals: 01's number, and the place of what failed.
+// Refusals: why, by 01's number, and the place of what failed.
+ghost use Rattle.std.specs.Prelude.{◌≡◌, ◌≢◌, MatchResult};
+ghost use Rattle.rules.specs.Refusal.{number, refusal};
+ghost use Rattle.rules.specs.declared.refusal.Cause.{Cause};
+
 use octets::count::Bytes;
 
+// What fails in the steps of 01 and 02, each by its number there.
+#[derive(Clone, Copy, PartialEq, Eq, Debug)]
+pub enum Cause {
+    InputShort = 1,
+    SenderKind = 2,
+    AuOrAs = 3,
+    EmptyOrDpClear = 4,
+    CertificateSize = 5,
+    Identity = 6,
+    Provider = 7,
+    AboveTheLimit = 8,
+    LabelLength = 9,
+    Class = 10,
+    Allocation = 11,
+    Label = 12,
+    OutputShort = 13,
+    AfterTheFinish = 14,
+    BadRecord = 15,
+    TooManyRecords = 16,
+    ValueOutOfRange = 20,
+    Privacy = 21,
+    PrivacyOnADirectQueue = 22,
+    AlgorithmAbsent = 23,
+    HashAbsent = 24,
+    RequestIdentity = 25,
+    RequestProvider = 26,
+    SplitNumber = 27,
+    PartTooLarge = 28,
+    Retired = 29,
+    QueueType = 30,
+    QueueSuffix = 31,
+    QueueValue = 32,
+    QueueString = 33,
+    BodyType = 60,
+    BodySize = 61,
+    BodyEncrypted = 62,
+}
+
+impl Cause {
+    #[tactic(auto, unfolding(crate::specs::Refusal::number))]
+    pub fn number(self) -> u32
+        ensures { result ≡ number self }
+    {
+        self as u32
+    }
+}
+
+// The cause that has a number; a number that is none's comes back.
+impl TryFrom<u32> for Cause {
+    type Error = u32;
+
+    ghost try_from_gives = { λ n r. MatchResult r (λ c. number c ≡ n) (λ e. (e ≡ n) × ((c : Cause) → number c ≢ n)) };
+
+    #[tactic(auto, unfolding(crate::specs::Refusal::number))]
+    fn try_from(number: u32) -> Result<Cause, u32> {
+        match number {
+            1 => Ok(Cause::InputShort),
+            2 => Ok(Cause::SenderKind),
+            3 => Ok(Cause::AuOrAs),
+            4 => Ok(Cause::EmptyOrDpClear),
+            5 => Ok(Cause::CertificateSize),
+            6 => Ok(Cause::Identity),
+            7 => Ok(Cause::Provider),
+            8 => Ok(Cause::AboveTheLimit),
+            9 => Ok(Cause::LabelLength),
+            10 => Ok(Cause::Class),
+            11 => Ok(Cause::Allocation),
+            12 => Ok(Cause::Label),
+            13 => Ok(Cause::OutputShort),
+            14 => Ok(Cause::AfterTheFinish),
+            15 => Ok(Cause::BadRecord),
+            16 => Ok(Cause::TooManyRecords),
+            20 => Ok(Cause::ValueOutOfRange),
+            21 => Ok(Cause::Privacy),
+            22 => Ok(Cause::PrivacyOnADirectQueue),
+            23 => Ok(Cause::AlgorithmAbsent),
+            24 => Ok(Cause::HashAbsent),
+            25 => Ok(Cause::RequestIdentity),
+            26 => Ok(Cause::RequestProvider),
+            27 => Ok(Cause::SplitNumber),
+            28 => Ok(Cause::PartTooLarge),
+            29 => Ok(Cause::Retired),
+            30 => Ok(Cause::QueueType),
+            31 => Ok(Cause::QueueSuffix),
+            32 => Ok(Cause::QueueValue),
+            33 => Ok(Cause::QueueString),
+            60 => Ok(Cause::BodyType),
+            61 => Ok(Cause::BodySize),
+            62 => Ok(Cause::BodyEncrypted),
+            _ => Err(number),
+        }
+    }
+}
+
+// As C has it. (The number is no `Cause`: C hands refusals in, with any number.)
 #[repr(C)]
-#[derive(Clone, Copy)]
+#[derive(Clone, Copy, PartialEq, Eq, Debug, Default)]
 pub struct Refusal {
     pub number: u32,
     pub place: Bytes,
 }
 
-// What the steps of a request find.
-#[derive(Clone, Copy)]
-pub enum Checked {
-    Passed,
-    Refused(Refusal),
+impl Refusal {
+    pub fn new(cause: Cause, place: Bytes) -> Self
+        ensures { result ≡ refusal (number cause) place.0 }
+    {
+        Refusal {
+            number: cause.number(),
+            place,
+        }
+    }
+
+    // Of what has no place of its own.
+    pub fn at_start(cause: Cause) -> Self
+        ensures { result ≡ refusal (number cause) 0 }
+    {
+        Refusal::new(cause, Bytes(0))
+    }
 }
 
-// A list of steps answers the number of the first that fails, or this.
-pub const PASSED: u32 = 0;
-
-pub const INPUT_SHORT: u32 = 1;
-
-pub const SENDER_KIND: u32 = 2;
-
-pub const AU_OR_AS: u32 = 3;
-
-pub const EMPTY_OR_DP_CLEAR: u32 = 4;
-
-pub const CERTIFICATE_SIZE: u32 = 5;
-
-pub const IDENTITY: u32 = 6;
-
-pub const PROVIDER: u32 = 7;
-
-pub const ABOVE_THE_LIMIT: u32 = 8;
-
-pub const LABEL_LENGTH: u32 = 9;
-
-pub const CLASS: u32 = 10;
-
-pub const ALLOCATION: u32 = 11;
-
-pub const LABEL: u32 = 12;
-
-pub const OUTPUT_SHORT: u32 = 13;
-
-pub const AFTER_THE_FINISH: u32 = 14;
-
-pub const BAD_RECORD: u32 = 15;
-
-pub const TOO_MANY_RECORDS: u32 = 16;
-
-pub const VALUE_OUT_OF_RANGE: u32 = 20;
-
-pub const PRIVACY: u32 = 21;
-
-pub const PRIVACY_ON_A_DIRECT_QUEUE: u32 = 22;
-
-pub const ALGORITHM_ABSENT: u32 = 23;
-
-pub const HASH_ABSENT: u32 = 24;
-
-pub const REQUEST_IDENTITY: u32 = 25;
-
-pub const REQUEST_PROVIDER: u32 = 26;
-
-pub const SPLIT_NUMBER: u32 = 27;
-
-pub const PART_TOO_LARGE: u32 = 28;
-
-pub const RETIRED: u32 = 29;
-
-pub const QUEUE_TYPE: u32 = 30;
-
-pub const QUEUE_SUFFIX: u32 = 31;
-
-pub const QUEUE_VALUE: u32 = 32;
-
-pub const QUEUE_STRING: u32 = 33;
-
-pub const BODY_TYPE: u32 = 60;
-
-pub const BODY_SIZE: u32 = 61;
-
-pub const BODY_ENCRYPTED: u32 = 62;
+// A step that failed, and where the header begins that it looks at.
+#[derive(Clone, Copy, PartialEq, Eq, Debug)]
+pub struct Failed {
+    pub cause: Cause,
+    pub header: Bytes,
+}

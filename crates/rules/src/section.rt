@@ -3,8 +3,7 @@ ghost use Rattle.std.specs.Prelude.{◌≡◌};
 ghost use Rattle.rules.specs.Refusal.{refusal};
 
 use crate::properties::{PropertiesFields, PropertiesParts};
-use crate::refusal;
-use crate::refusal::Refusal;
+use crate::refusal::{Cause, Refusal};
 use crate::security::SecurityHeader;
 use octets::count::Bytes;
 
@@ -16,7 +15,7 @@ pub type CorrelationId = [u8; 20];
 
 // Where a part lies, in bytes, counted from the section's first byte.
 #[repr(C)]
-#[derive(Clone, Copy)]
+#[derive(Clone, Copy, PartialEq, Eq, Debug, Default)]
 pub struct Part {
     pub start: Bytes,
     pub length: Bytes,
@@ -24,7 +23,7 @@ pub struct Part {
 
 // 01's summary: every judged field, the parts and the verdicts. Label and provider name are read through their parts.
 #[repr(C)]
-#[derive(Clone, Copy)]
+#[derive(Clone, Copy, PartialEq, Eq, Debug, Default)]
 pub struct Summary {
     pub security_first: bool,
     pub security: SecurityHeader,
@@ -35,40 +34,19 @@ pub struct Summary {
     pub retired: bool,
 }
 
-#[derive(Clone, Copy)]
-pub enum Summarized {
-    Accepted(Summary),
-    Refused(Refusal),
-}
-
 // 01's full reading: the summary, and what else the section carries. Private parts are read through their parts.
 #[repr(C)]
-#[derive(Clone, Copy)]
+#[derive(Clone, Copy, PartialEq, Eq, Debug, Default)]
 pub struct Section {
     pub summary: Summary,
     pub correlation_id: Part,
     pub application_tag: u32,
 }
 
-#[derive(Clone, Copy)]
-pub enum Reading {
-    Accepted(Section),
-    Refused(Refusal),
-}
-
-// What a function that writes to a lent output answers: the bytes written, or the refusal.
-#[derive(Clone, Copy)]
-pub enum Output {
-    Written(Bytes),
-    Refused(Refusal),
-}
-
 // 13
-pub fn output_short() -> Output
-    ensures { result ≡ Output.Refused (refusal 13 0) }
+#[tactic(auto, unfolding(crate::specs::Refusal::number))]
+pub fn output_short() -> Result<Bytes, Refusal>
+    ensures { result ≡ Err (refusal 13 0) }
 {
-    Output::Refused(Refusal {
-        number: refusal::OUTPUT_SHORT,
-        place: Bytes(0),
-    })
+    Err(Refusal::at_start(Cause::OutputShort))
 }

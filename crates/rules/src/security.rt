@@ -1,11 +1,11 @@
 // SecurityHeader: its fields, its parts, its length, and the steps S2 to S7, S10 and S11.
 ghost use Rattle.std.specs.Prelude.{◌≡◌, ◌+◌, ◌-◌, ◌/◌, min, drop};
 ghost use Rattle.rules.specs.Layout.{LargestSize};
-ghost use Rattle.rules.specs.Refusal.{limit};
+ghost use Rattle.rules.specs.Refusal.{limit, number_of};
 ghost use Rattle.rules.specs.Security.{all_empty, identity_size, identity_head, part_too_large, provider_size, provider_text, security_contents, security_length, security_steps};
 
 use crate::layout::{larger, padded};
-use crate::refusal;
+use crate::refusal::Cause;
 use crate::section::{LIMIT, Part};
 use octets::count::Bytes;
 use octets::number::u8_at;
@@ -25,7 +25,7 @@ pub const AS: u32 = 0x0100;
 // The judged fields of the 16 fixed bytes. Of Flags the bits 0 to 11: the four X bits are private.
 // (32 bits wide, so that no gap in the struct is copied piecemeal.)
 #[repr(C)]
-#[derive(Clone, Copy)]
+#[derive(Clone, Copy, PartialEq, Eq, Debug, Default)]
 pub struct SecurityFields {
     pub flags: u32,
     pub sender_id_size: Bytes,
@@ -37,7 +37,7 @@ pub struct SecurityFields {
 
 // The five parts, without their padding, and the header's length with it.
 #[repr(C)]
-#[derive(Clone, Copy)]
+#[derive(Clone, Copy, PartialEq, Eq, Debug, Default)]
 pub struct SecurityParts {
     pub sender_id: Part,
     pub encryption_key: Part,
@@ -49,7 +49,7 @@ pub struct SecurityParts {
 
 // What reading finds in a SecurityHeader. The two SID bytes are those of the identity for ST 1, else 0.
 #[repr(C)]
-#[derive(Clone, Copy)]
+#[derive(Clone, Copy, PartialEq, Eq, Debug, Default)]
 pub struct SecurityHeader {
     pub fields: SecurityFields,
     pub parts: SecurityParts,
@@ -58,28 +58,19 @@ pub struct SecurityHeader {
     pub provider_type: u32,
 }
 
+#[tactic(auto, unfolding(crate::specs::Security::all_empty))]
 fn is_empty(f: SecurityFields) -> bool
     ensures { result ≡ all_empty f }
 {
-    if f.sender_id_size.0 != 0 {
-        return false;
-    }
-    if f.encryption_key_size.0 != 0 {
-        return false;
-    }
-    if f.signature_size.0 != 0 {
-        return false;
-    }
-    if f.sender_cert_size.0 != 0 {
-        return false;
-    }
-    if f.provider_info_size.0 != 0 {
-        return false;
-    }
-    true
+    f.sender_id_size.0 == 0
+        && f.encryption_key_size.0 == 0
+        && f.signature_size.0 == 0
+        && f.sender_cert_size.0 == 0
+        && f.provider_info_size.0 == 0
 }
 
 // S6
+#[tactic(auto, unfolding(crate::specs::Security::identity_size))]
 pub fn identity_size_fits(st: u32, size: Bytes) -> bool
     ensures { result ≡ identity_size st size.0 }
 {
@@ -99,6 +90,7 @@ pub fn identity_size_fits(st: u32, size: Bytes) -> bool
 }
 
 // S7
+#[tactic(auto, unfolding(crate::specs::Security::provider_size))]
 fn provider_size_fits(de: u32, signature: Bytes, size: Bytes) -> bool
     ensures { result ≡ provider_size de signature.0 size.0 }
 {
@@ -124,47 +116,43 @@ fn provider_size_fits(de: u32, signature: Bytes, size: Bytes) -> bool
 pub fn part_too_large(key: Bytes, signature: Bytes, certificate: Bytes) -> bool
     ensures { result ≡ part_too_large key.0 signature.0 certificate.0 }
 {
-    if 65535 < key.0 {
-        return true;
-    }
-    if 65535 < signature.0 {
-        return true;
-    }
-    65535 < certificate.0
+    65535 < key.0 || 65535 < signature.0 || 65535 < certificate.0
 }
 
 // S2 to S7
-pub fn security_steps(f: SecurityFields) -> u32
-    ensures { result ≡ security_steps f }
+#[tactic(auto, unfolding(crate::specs::Security::security_steps, crate::specs::Refusal::number_of, crate::specs::Refusal::number))]
+pub fn security_steps(f: SecurityFields) -> Result<(), Cause>
+    ensures { number_of result ≡ security_steps f }
 {
     let flags = f.flags;
     if 2 < flags % AU {
-        return refusal::SENDER_KIND;
+        return Err(Cause::SenderKind);
     }
     if flags / AU % 2 != 0 {
-        return refusal::AU_OR_AS;
+        return Err(Cause::AuOrAs);
     }
     if flags / AS % 16 != 0 {
-        return refusal::AU_OR_AS;
+        return Err(Cause::AuOrAs);
     }
     if is_empty(f) {
-        return refusal::EMPTY_OR_DP_CLEAR;
+        return Err(Cause::EmptyOrDpClear);
     }
     if flags / DP % 2 == 0 {
-        return refusal::EMPTY_OR_DP_CLEAR;
+        return Err(Cause::EmptyOrDpClear);
     }
     if 65535 < f.sender_cert_size.0 {
-        return refusal::CERTIFICATE_SIZE;
+        return Err(Cause::CertificateSize);
     }
     if !identity_size_fits(flags % AU, f.sender_id_size) {
-        return refusal::IDENTITY;
+        return Err(Cause::Identity);
     }
     if !provider_size_fits(flags / DE % 2, f.signature_size, f.provider_info_size) {
-        return refusal::PROVIDER;
+        return Err(Cause::Provider);
     }
-    refusal::PASSED
+    Ok(())
 }
 
+#[tactic(auto, unfolding(crate::specs::Security::cert_at, crate::specs::Security::key_at, crate::specs::Security::provider_at, crate::specs::Security::security_length, crate::specs::Security::signature_at, octets::specs::Padding::padded))]
 fn largest_size(f: SecurityFields) -> Bytes
     ensures { LargestSize f result.0 }
 {
@@ -174,6 +162,7 @@ fn largest_size(f: SecurityFields) -> Bytes
 }
 
 // The header's length, but at most one byte above the limit, so that no sum wraps.
+#[tactic(auto, unfolding(crate::specs::Security::cert_at, crate::specs::Security::key_at, crate::specs::Security::provider_at, crate::specs::Security::security_length, crate::specs::Security::signature_at))]
 pub fn security_length(f: SecurityFields) -> Bytes
     ensures { result.0 ≡ min (limit + 1) (security_length f) }
 {
@@ -186,23 +175,18 @@ pub fn security_length(f: SecurityFields) -> Bytes
     let certificate = padded(f.sender_cert_size).0;
     let provider = padded(f.provider_info_size).0;
     let length = 16 + identity + key + signature + certificate + provider;
-    if LIMIT < length {
-        return Bytes(LIMIT + 1);
-    }
-    Bytes(length)
+    Bytes(length.min(LIMIT + 1))
 }
 
 // The k of S10: an identity of 8 + 4k bytes.
 fn sub_authorities(size: Bytes) -> usize
     ensures { result ≡ (size.0 - 8) / 4 }
 {
-    if size.0 < 8 {
-        return 0;
-    }
-    (size.0 - 8) / 4
+    size.0.saturating_sub(8) / 4
 }
 
 // S10
+#[tactic(auto, unfolding(crate::specs::Security::identity_head))]
 pub fn identity_head_fits(f: SecurityFields, identity: &[u8]) -> bool
     ensures { result ≡ identity_head f identity.now }
 {
@@ -227,6 +211,7 @@ pub fn provider_name(info: &[u8]) -> &[u8]
 }
 
 // S11
+#[tactic(auto, unfolding(crate::specs::Security::provider_text, octets::specs::Text::is_text, octets::specs::Text::last_only, octets::specs::Text::units))]
 fn provider_text_fits(info: &[u8]) -> bool
     ensures { result ≡ provider_text info.now }
 {
@@ -240,14 +225,15 @@ fn provider_text_fits(info: &[u8]) -> bool
 }
 
 // S10 and S11
-pub fn security_contents(f: SecurityFields, identity: &[u8], info: &[u8]) -> u32
-    ensures { result ≡ security_contents f identity.now (provider_text info.now) }
+#[tactic(auto, unfolding(crate::specs::Security::security_contents, crate::specs::Refusal::number_of, crate::specs::Refusal::number))]
+pub fn security_contents(f: SecurityFields, identity: &[u8], info: &[u8]) -> Result<(), Cause>
+    ensures { number_of result ≡ security_contents f identity.now (provider_text info.now) }
 {
     if !identity_head_fits(f, identity) {
-        return refusal::IDENTITY;
+        return Err(Cause::Identity);
     }
     if !provider_text_fits(info) {
-        return refusal::PROVIDER;
+        return Err(Cause::Provider);
     }
-    refusal::PASSED
+    Ok(())
 }

@@ -6,7 +6,7 @@ ghost use Rattle.rules.specs.Summary.{authentication_fails, decryption_fails, re
 use crate::properties::PropertiesFields;
 use crate::security::{EB, SecurityFields};
 
-#[derive(Clone, Copy)]
+#[derive(Clone, Copy, PartialEq, Eq, Debug)]
 pub struct Verdicts {
     pub authentication_fails: bool,
     pub decryption_fails: bool,
@@ -36,6 +36,7 @@ fn is_hash_algorithm(algorithm: u32) -> bool
 }
 
 // 003's table: a privacy level, and the encryption algorithms that it allows.
+#[tactic(auto, unfolding(crate::specs::Listed::encryption_pairs, crate::specs::Listed::paired))]
 fn is_paired(level: u32, algorithm: u32) -> bool
     ensures { result ≡ paired encryption_pairs level algorithm }
 {
@@ -62,6 +63,7 @@ fn signature_present(security: SecurityFields) -> bool
     0 < security.signature_size.0
 }
 
+#[tactic(auto, unfolding(crate::specs::Summary::authentication_fails))]
 fn authentication_fails(security: SecurityFields, properties: PropertiesFields) -> bool
     ensures { result ≡ authentication_fails security properties }
 {
@@ -69,6 +71,7 @@ fn authentication_fails(security: SecurityFields, properties: PropertiesFields) 
         | (signature_present(security) & !is_hash_algorithm(properties.hash_algorithm))
 }
 
+#[tactic(auto, unfolding(crate::specs::Summary::decryption_fails))]
 fn decryption_fails(security: SecurityFields, properties: PropertiesFields) -> bool
     ensures { result ≡ decryption_fails security properties }
 {
@@ -77,6 +80,7 @@ fn decryption_fails(security: SecurityFields, properties: PropertiesFields) -> b
 }
 
 // C-21: 40-bit privacy, or a signature with a retired hash.
+#[tactic(auto, unfolding(crate::specs::Summary::retired))]
 fn retired(security: SecurityFields, properties: PropertiesFields) -> bool
     ensures { result ≡ retired security properties }
 {
@@ -84,6 +88,7 @@ fn retired(security: SecurityFields, properties: PropertiesFields) -> bool
         | (signature_present(security) & is_retired_hash(properties.hash_algorithm))
 }
 
+#[tactic(auto, unfolding(crate::specs::Summary::verdicts_of))]
 pub fn verdicts_of(security: SecurityFields, properties: PropertiesFields) -> Verdicts
     ensures { result ≡ verdicts_of security properties }
 {

@@ -2,6 +2,7 @@
 -- mask exactly where all that is judged is the same (`section-alike`); one where it is reads the same (`reads`), and two
 -- inputs of which reading tells the same are such (`told`).
 use Prim.Native.Nat.{ℕ, ◌^◌, ◌≤◌}
+use Rattle.std.specs.Prelude.{Ok}
 use mathlib.Core.Path.{◌≡◌, sym, ap, subst, ◌∙◌}
 use mathlib.Core.Logic.{◌↔◌}
 use mathlib.Core.Bool.{Bool}
@@ -18,7 +19,6 @@ use Rattle.rules.specs.Output.{writer_answer, writer_output}
 use Rattle.rules.specs.Reading.{SameSummary, summarize}
 use Rattle.rules.specs.Summary.{label_of, provider_name_of}
 use Rattle.rules.specs.Support.{support_answer, support_bytes, copy_answer, copy_output}
-use Rattle.rules.specs.declared.section.Summarized.TheVariants.{Accepted}
 use Rattle.rules.specs.declared.section.Summary.{Summary}
 use Rattle.rules.proofs.Laws.Accepted.{SectionPassed, section-passed}
 use Rattle.rules.proofs.Laws.Bits.{bits-mod, mod-bits, bit-mod, bit-mod-above}
@@ -43,7 +43,7 @@ agrees-alike m s t = (
   },
 )
 
-module _ (first : Bool) (s : List ℕ) (m : Summary) (e : summarize first s ≡ Accepted m) where
+module _ (first : Bool) (s : List ℕ) (m : Summary) (e : summarize first s ≡ Ok m) where
   accepted-passed : SectionPassed first s m
   accepted-passed = (section-passed first s m).0 e
 
@@ -110,14 +110,14 @@ module _ (first : Bool) (s : List ℕ) (m : Summary) (e : summarize first s ≡ 
   same-agrees : (t : List ℕ) → Octets s → Octets t → SameSummary first s t → Agrees m s t
   same-agrees t bs bt c =
       let own : c.summary ≡ m = cc in
-      let right = (section-passed first t m).0 (c.right ∙ ap Accepted own) in
+      let right = (section-passed first t m).0 (c.right ∙ ap Ok own) in
       (agrees-same t bs bt right.properties.reaches).1
       (told first (record { left = bs; right = bt }) m accepted-passed right
       (subst (λ (x : Summary). label_of x s ≡ label_of x t) own c.label)
       (subst (λ (x : Summary). provider_name_of x s ≡ provider_name_of x t) own c.provider_name))
 
   -- of two inputs with one summary, the copies are the same exactly where they agree
-  pub copies-agree : (t : List ℕ) → summarize first t ≡ Accepted m → (copy_of m s ≡ copy_of m t) ↔ Agrees m s t
+  pub copies-agree : (t : List ℕ) → summarize first t ≡ Ok m → (copy_of m s ≡ copy_of m t) ↔ Agrees m s t
   unfolding copy_of
   copies-agree t et =
       let right = (section-passed first t m).0 et in
@@ -141,7 +141,7 @@ copy-refused first s out =
     }
 
 module _ (first : Bool) (s t : List ℕ) (m n : Summary) (bs : Octets s) (bt : Octets t)
-    (es : summarize first s ≡ Accepted m) (et : summarize first t ≡ Accepted n) where
+    (es : summarize first s ≡ Ok m) (et : summarize first t ≡ Ok n) where
   -- copies that are the same bytes read the same, so the two summaries are one
   copies-one : copy_of m s ≡ copy_of n t → n ≡ m
   copies-one c =
@@ -163,7 +163,7 @@ module _ (first : Bool) (s t : List ℕ) (m n : Summary) (bs : Octets s) (bt : O
       both : n ≡ m → (copy_of m s ≡ copy_of n t) ↔ Agrees m s t
       both one =
           subst (λ (x : Summary). (copy_of m s ≡ copy_of x t) ↔ Agrees m s t) (sym one)
-          (copies-agree first s m es t (et ∙ ap Accepted one))
+          (copies-agree first s m es t (et ∙ ap Ok one))
 
 pub demand3 : Demand3
 demand3 =

@@ -1,5 +1,6 @@
 -- Partners' copies, from demand 3's laws: of an accepted section the support copy is one row of bytes.
 use Prim.Native.Nat.{ℕ, ◌<◌}
+use Rattle.std.specs.Prelude.{Ok}
 use mathlib.Core.Path.{◌≡◌, sym, ap, subst, ◌∙◌}
 use mathlib.Core.Bool.{Bool}
 use mathlib.Core.List.{List, ◌++◌}
@@ -13,7 +14,6 @@ use Rattle.octets.specs.Octets.{Octets}
 use Rattle.rules.specs.Judged.{bit, copy_of, judged}
 use Rattle.rules.specs.Reading.{summarize}
 use Rattle.rules.specs.Support.{IsSupportCopy}
-use Rattle.rules.specs.declared.section.Summarized.TheVariants.{Accepted}
 use Rattle.rules.specs.declared.section.Summary.{Summary}
 use Rattle.rules.proofs.Laws.Accepted.{section-passed}
 use Rattle.rules.proofs.Laws.Bits.{bits-mod}
@@ -37,7 +37,7 @@ masked_same m s a b oa ob ma mb = ext_get_or 0 a b (ma.size ∙ sym mb.size) (λ
     byte : (i : ℕ) → get_or a i 0 ≡ get_or b i 0
     byte i = sym (mod-eq_of_lt (oa i)) ∙ bits-mod 8 (get_or a i 0) (get_or b i 0) (λ j l. same i j) ∙ mod-eq_of_lt (ob i)
 
-module _ (first : Bool) (s proposed : List ℕ) (m : Summary) (e : summarize first s ≡ Accepted m) where
+module _ (first : Bool) (s proposed : List ℕ) (m : Summary) (e : summarize first s ≡ Ok m) where
   is-copy : IsSupportCopy first s proposed ↔ (proposed ≡ copy_of m s)
   is-copy = (
     λ x.
@@ -47,14 +47,14 @@ module _ (first : Bool) (s proposed : List ℕ) (m : Summary) (e : summarize fir
   )
 
 -- two accepted sections with one copy
-same_copy : (first : Bool) (s t proposed : List ℕ) (m : Summary) → summarize first s ≡ Accepted m → summarize first t ≡ Accepted m
+same_copy : (first : Bool) (s t proposed : List ℕ) (m : Summary) → summarize first s ≡ Ok m → summarize first t ≡ Ok m
     → copy_of m t ≡ copy_of m s → IsSupportCopy first t proposed ↔ IsSupportCopy first s proposed
 same_copy first s t proposed m es et c =
     let left = is-copy first s proposed m es in
     let right = is-copy first t proposed m et in
     (λ x. left.1 (right.0 x ∙ c), λ x. right.1 (left.0 x ∙ sym c))
 
-accepted : (first : Bool) (s proposed : List ℕ) (m : Summary) → summarize first s ≡ Accepted m → ProposedAccepted first s proposed m
+accepted : (first : Bool) (s proposed : List ℕ) (m : Summary) → summarize first s ≡ Ok m → ProposedAccepted first s proposed m
 accepted first s proposed m e =
     let own = is-copy first s proposed m e in
     let masked = copy-masked first s m e in
@@ -74,7 +74,7 @@ accepted first s proposed m e =
           let after = bytes_after.unread first s rest m e in
           let left = after.summary.left in
           let right = after.summary.right in
-          let et : summarize first t ≡ Accepted m = cc in
+          let et : summarize first t ≡ Ok m = cc in
           let room = ((section-passed first s m).0 e).properties.reaches in
           same_copy first s t proposed m e et
           (sym (copy-first first t m et s room) ∙ ap (take (section_length m)) (after.copy s).1 ∙ copy-first first s m e s room);

@@ -1,5 +1,6 @@
 -- An input in which all that is judged is as in an accepted one reads the same.
 use Prim.Native.Nat.{ℕ, ◌≤◌, ◌<◌}
+use Rattle.std.specs.Prelude.{Ok}
 use mathlib.Core.Path.{◌≡◌, refl, sym, ap, ◌∙◌}
 use mathlib.Core.Bool.{Bool, true, false, not, ◌||◌, cond}
 use mathlib.Core.List.{List}
@@ -14,7 +15,6 @@ use Rattle.rules.specs.Reading.{SameSummary, security_header, summarize}
 use Rattle.rules.specs.Security.{ST, security_fields, security_length, identity_head}
 use Rattle.rules.specs.Summary.{part_of, no_security, summary_of, label_of, provider_name_of, properties_at}
 use Rattle.rules.specs.declared.properties.PropertiesFields.{PropertiesFields}
-use Rattle.rules.specs.declared.section.Summarized.TheVariants.{Accepted}
 use Rattle.rules.specs.declared.section.Summary.{Summary}
 use Rattle.rules.specs.declared.security.SecurityFields.{SecurityFields}
 use Rattle.rules.specs.declared.security.SecurityHeader.{SecurityHeader}
@@ -108,10 +108,10 @@ pub record Reads (first : Bool) (m : Summary) (s t : List ℕ) : Type 0 where
   pub label : label_of m s ≡ label_of m t
   pub name : provider_name_of m s ≡ provider_name_of m t
 
-pub reads-accepted : {first : Bool} {m : Summary} {s t : List ℕ} → Reads first m s t → summarize first t ≡ Accepted m
+pub reads-accepted : {first : Bool} {m : Summary} {s t : List ℕ} → Reads first m s t → summarize first t ≡ Ok m
 reads-accepted {first} {m} {s} {t} r = (section-passed first t m).1 r.passed
 
-pub reads_same : {first : Bool} {m : Summary} {s t : List ℕ} → summarize first s ≡ Accepted m → Reads first m s t
+pub reads_same : {first : Bool} {m : Summary} {s t : List ℕ} → summarize first s ≡ Ok m → Reads first m s t
     → SameSummary first s t
 reads_same {m} e r =
     record { summary = m; left = e; right = reads-accepted r; label = r.label; provider_name = r.name }

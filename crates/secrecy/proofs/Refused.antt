@@ -1,5 +1,6 @@
 -- Inputs that differ in nothing but what is private are refused alike.
 use Prim.Native.Nat.{ℕ, ◌+◌, ◌-◌, ◌≤◌, ◌<◌}
+use Rattle.std.specs.Prelude.{Err}
 use mathlib.Core.Path.{◌≡◌, refl, sym, ap, subst, ◌∙◌}
 use mathlib.Core.Bool.{Bool, true, false, cond}
 use mathlib.Core.List.{List, [], ◌++◌, append_assoc}
@@ -22,7 +23,6 @@ use Rattle.rules.specs.Security.{security_parts, security_row}
 use Rattle.rules.specs.Summary.{no_security, properties_at, summary_of}
 use Rattle.rules.specs.Support.{copy_answer, copy_output, support_answer, support_bytes}
 use Rattle.rules.specs.declared.refusal.Refusal.{Refusal}
-use Rattle.rules.specs.declared.section.Summarized.TheVariants.{Refused}
 use Rattle.rules.specs.declared.section.Summary.{Summary}
 use Rattle.rules.specs.declared.security.SecurityFields.{SecurityFields}
 use Rattle.rules.proofs.Laws.Accepted.{accepted-at, judge-passed, security-number, summarize-passed, summarize-refused}
@@ -147,7 +147,7 @@ alikes true o d = first_one o (omega (arith, d.size)) (record { bits = λ i j l.
 alikes false o d = alone o (omega (arith, d.size)) (record { bits = λ i j l. d.bits i j (omega (arith, l)) })
 
 -- what the functions answer of a refused input is its refusal
-refused-told : (first : Bool) (s t : List ℕ) (r : Refusal) → judge first t ≡ judge first s → summarize first s ≡ Refused r
+refused-told : (first : Bool) (s t : List ℕ) (r : Refusal) → judge first t ≡ judge first s → summarize first s ≡ Err r
     → RefusedWith first t r
 unfolding read full_reading support_answer support_bytes copy_answer copy_output
 refused-told first s t r same e =
@@ -156,7 +156,7 @@ refused-told first s t r same e =
     let z : ◌≡◌ {A = ℕ} 0 1 = cc in
     omega (arith, z) in
     let own = summarize-refused first t (λ none. some (ap (λ (x : Refusal). x.number) (sym same) ∙ none))
-    ∙ ap Refused same ∙ sym (summarize-refused first s some) ∙ e in
+    ∙ ap Err same ∙ sym (summarize-refused first s some) ∙ e in
     record { summary = own; reading = rw own; copy = λ out. (rw own, rw own) }
 
 -- of an accepted input, the SecurityHeader's mask, if any, and the fixed bytes' behind it

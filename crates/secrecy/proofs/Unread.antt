@@ -1,5 +1,6 @@
 -- Bytes after an accepted section are not read, nor copied.
 use Prim.Native.Nat.{ℕ, ◌%◌, ◌^◌, ◌≤◌, ◌<◌}
+use Rattle.std.specs.Prelude.{Ok}
 use mathlib.Core.Path.{◌≡◌, refl, sym, ap, ◌∙◌}
 use mathlib.Core.Bool.{Bool}
 use mathlib.Core.List.{List, ◌++◌}
@@ -12,7 +13,6 @@ use Rattle.rules.specs.Properties.{properties_length}
 use Rattle.rules.specs.Reading.{full_reading, read, summarize}
 use Rattle.rules.specs.Summary.{properties_at, section_of}
 use Rattle.rules.specs.Support.{copy_answer, copy_output, support_answer, support_bytes}
-use Rattle.rules.specs.declared.section.Summarized.TheVariants.{Accepted}
 use Rattle.rules.specs.declared.section.Summary.{Summary}
 use Rattle.rules.proofs.Laws.Accepted.{SectionPassed, section-fits, section-passed}
 use Rattle.rules.proofs.Laws.Judged.{judged-le, length-judged}
@@ -22,7 +22,7 @@ use Rattle.secrecy.proofs.SameBytes.{fixed_same, section-same}
 use Rattle.secrecy.specs.Demand3.{section_length}
 use Rattle.secrecy.specs.Unread.{BytesAfter, ReadTheSame}
 
-module _ (first : Bool) (s rest : List ℕ) (m : Summary) (e : summarize first s ≡ Accepted m) where
+module _ (first : Bool) (s rest : List ℕ) (m : Summary) (e : summarize first s ≡ Ok m) where
   abbrev followed : List ℕ
   followed = take (section_length m) s ++ rest
 

@@ -1,5 +1,6 @@
 -- Demand 3 without the name, from demand 3: the name of the one is put into the other, which then has all that is judged of it.
 use Prim.Native.Nat.{ℕ, zero, suc, ◌+◌, ◌-◌, ◌≤◌, ◌<◌}
+use Rattle.std.specs.Prelude.{Ok}
 use mathlib.Core.Path.{◌≡◌, refl, sym, ap, ap₂, subst, ◌∙◌}
 use mathlib.Core.Bool.{Bool, true, false, ◌&&◌, ◌||◌, cond, and-eq-true_iff, true≢false}
 use mathlib.Core.List.{List, [], ◌∷◌}
@@ -19,7 +20,6 @@ use Rattle.rules.specs.Properties.{properties_length}
 use Rattle.rules.specs.Reading.{summarize}
 use Rattle.rules.specs.Security.{provider_text, security_fields, security_parts}
 use Rattle.rules.specs.Summary.{label_of, part_of, properties_at, provider_name_of}
-use Rattle.rules.specs.declared.section.Summarized.TheVariants.{Accepted}
 use Rattle.rules.specs.declared.section.Summary.{Summary}
 use Rattle.rules.specs.declared.security.SecurityParts.{SecurityParts}
 use Rattle.rules.proofs.Laws.Accepted.{SectionPassed, section-fits, section-passed, security-fields}
@@ -101,7 +101,7 @@ name-text true v t m n av at same e =
     ap (λ (p : SecurityParts). provider_text (part_of t p.provider_info)) parts ∙ at.security.provider
 name-text false v t m n av at same e = absurd (true≢false (sym e))
 
-module _ (first : Bool) (s t : List ℕ) (m : Summary) (os : Octets s) (ot : Octets t) (es : summarize first s ≡ Accepted m) where
+module _ (first : Bool) (s t : List ℕ) (m : Summary) (os : Octets s) (ot : Octets t) (es : summarize first s ≡ Ok m) where
   abbrev from : ℕ
   from = m.security.parts.provider_info.start.0 + 4
 
@@ -157,7 +157,7 @@ module _ (first : Bool) (s t : List ℕ) (m : Summary) (os : Octets s) (ot : Oct
         ap₂ (λ (k : ℕ) (x : List ℕ). eqb k 0 || is_text x) (length-within v at n inside.1 ∙ sym (length-within s at n inside.0)) name-same
 
   -- agreement outside the name makes one summary and label
-  agrees-same : (n : Summary) → summarize first t ≡ Accepted n → AgreesOutsideName m s t → SameWithoutName first s t
+  agrees-same : (n : Summary) → summarize first t ≡ Ok n → AgreesOutsideName m s t → SameWithoutName first s t
   agrees-same n et a =
       let reads = agrees-reads first s m es v os (mixed-octets from to s t os ot) agrees in
       let ren : Renamed m v t = record { size = sym size; bytes = λ i out. outside i out } in
@@ -188,7 +188,7 @@ module _ (first : Bool) (s t : List ℕ) (m : Summary) (os : Octets s) (ot : Oct
   same-agrees : SameWithoutName first s t → AgreesOutsideName m s t
   same-agrees c =
       let one : c.summary ≡ m = let l = c.left in cc in
-      let at = (section-passed first t m).0 (c.right ∙ ap Accepted one) in
+      let at = (section-passed first t m).0 (c.right ∙ ap Ok one) in
       let room = at.properties.reaches in
       let ren : Renamed m t v = record { size = size; bytes = λ i out. sym (outside i out) } in
       let moved = renamed first t v m at ren (λ f. text_same room ∙ first-text first s m passed f) in

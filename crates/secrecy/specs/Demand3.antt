@@ -1,14 +1,12 @@
 -- Demand 3, sentence by sentence, of what the functions promise: `summarize`, `support_answer` and `support_bytes`.
 -- `first` says whether a SecurityHeader stands first.
-use Rattle.std.specs.Prelude.{ℕ, ◌<◌, ◌≤◌, ◌≡◌, ◌↔◌, Bool, List, length, get_or, take, drop}
+use Rattle.std.specs.Prelude.{Err, Ok, ℕ, ◌<◌, ◌≤◌, ◌≡◌, ◌↔◌, Bool, List, length, get_or, take, drop}
 use Rattle.octets.specs.Octets.{Octets}
 use Rattle.rules.specs.Judged.{Agrees, bit, judged}
 use Rattle.rules.specs.Reading.{SameSummary, summarize}
 use Rattle.rules.specs.Refusal.{refusal}
 use Rattle.rules.specs.Support.{support_answer, support_bytes}
 use Rattle.rules.specs.declared.refusal.Refusal.{Refusal}
-use Rattle.rules.specs.declared.section.Output.TheVariants.{Written, Refused as Output-as-Refused}
-use Rattle.rules.specs.declared.section.Summarized.TheVariants.{Accepted, Refused}
 use Rattle.rules.specs.declared.section.Summary.{Summary}
 
 abbrev pub section_length : Summary → ℕ
@@ -22,12 +20,12 @@ pub record CopyIsMasked (m : Summary) (s copy : List ℕ) : Type 0 where
 
 -- "A support copy .. is refused exactly when reading is refused, with the same number and place, or when its output is shorter than the section."
 pub record CopyRefused (first : Bool) (s out : List ℕ) : Type 0 where
-  pub reading : (r : Refusal) → summarize first s ≡ Refused r
-      → (support_answer first s out ≡ Output-as-Refused r) × (support_bytes first s out ≡ out)
-  pub short : (m : Summary) → summarize first s ≡ Accepted m → length out < section_length m
-      → (support_answer first s out ≡ Output-as-Refused (refusal 13 0)) × (support_bytes first s out ≡ out)
-  pub room : (m : Summary) → summarize first s ≡ Accepted m → section_length m ≤ length out
-      → (support_answer first s out ≡ Written m.parts.section_length)
+  pub reading : (r : Refusal) → summarize first s ≡ Err r
+      → (support_answer first s out ≡ Err r) × (support_bytes first s out ≡ out)
+  pub short : (m : Summary) → summarize first s ≡ Ok m → length out < section_length m
+      → (support_answer first s out ≡ Err (refusal 13 0)) × (support_bytes first s out ≡ out)
+  pub room : (m : Summary) → summarize first s ≡ Ok m → section_length m ≤ length out
+      → (support_answer first s out ≡ Ok m.parts.section_length)
       × CopyIsMasked m s (take (section_length m) (support_bytes first s out))
       × (drop (section_length m) (support_bytes first s out) ≡ drop (section_length m) out)  -- 01: "bytes behind it stay"
 
@@ -42,10 +40,10 @@ pub record TwoAccepted (first : Bool) (s t : List ℕ) (m n : Summary) : Type 0 
 pub record Demand3 : Type 0 where
   pub refused : (first : Bool) (s out : List ℕ) → CopyRefused first s out
   pub two : (first : Bool) (s t : List ℕ) (m n : Summary) → Octets s → Octets t
-      → summarize first s ≡ Accepted m → summarize first t ≡ Accepted n → TwoAccepted first s t m n
+      → summarize first s ≡ Ok m → summarize first t ≡ Ok n → TwoAccepted first s t m n
   -- "Each copy, read the way its original was and whatever bytes follow it, gives its original's summary.": those behind it in the output are such bytes
   pub reads : (first : Bool) (s out : List ℕ) (m : Summary) → Octets s
-      → summarize first s ≡ Accepted m → section_length m ≤ length out → SameSummary first s (support_bytes first s out)
+      → summarize first s ≡ Ok m → section_length m ≤ length out → SameSummary first s (support_bytes first s out)
   -- "Every input of the same length as an accepted one, read the same way, that agrees with it in every judged bit is accepted too."
   pub accepted : (first : Bool) (s t : List ℕ) (m : Summary) → Octets s → Octets t → length t ≡ length s
-      → summarize first s ≡ Accepted m → Agrees m s t → summarize first t ≡ Accepted m
+      → summarize first s ≡ Ok m → Agrees m s t → summarize first t ≡ Ok m

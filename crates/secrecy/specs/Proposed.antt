@@ -1,11 +1,10 @@
 -- C-24, "Partners' copies", of what `is_support_copy` promises: `IsSupportCopy`.
-use Rattle.std.specs.Prelude.{ℕ, ◌≤◌, ◌≡◌, Bool, List, ◌++◌, ◌↔◌, length, take}
+use Rattle.std.specs.Prelude.{Err, Ok, ℕ, ◌≤◌, ◌≡◌, Bool, List, ◌++◌, ◌↔◌, length, take}
 use Rattle.octets.specs.Octets.{Octets}
 use Rattle.rules.specs.Judged.{Agrees}
 use Rattle.rules.specs.Reading.{summarize}
 use Rattle.rules.specs.Support.{IsSupportCopy, support_bytes}
 use Rattle.rules.specs.declared.refusal.Refusal.{Refusal}
-use Rattle.rules.specs.declared.section.Summarized.TheVariants.{Accepted, Refused}
 use Rattle.rules.specs.declared.section.Summary.{Summary}
 use Rattle.secrecy.specs.Demand3.{CopyIsMasked, section_length}
 
@@ -22,7 +21,7 @@ pub record ProposedAccepted (first : Bool) (s proposed : List ℕ) (m : Summary)
   pub behind : (rest : List ℕ) → IsSupportCopy first (take (section_length m) s ++ rest) proposed ↔ IsSupportCopy first s proposed
 
 pub record ProposedCopies : Type 0 where
-  pub accepted : (first : Bool) (s proposed : List ℕ) (m : Summary) → summarize first s ≡ Accepted m
+  pub accepted : (first : Bool) (s proposed : List ℕ) (m : Summary) → summarize first s ≡ Ok m
       → ProposedAccepted first s proposed m
   -- "else no, for a refused section too"
-  pub refused : (first : Bool) (s proposed : List ℕ) (r : Refusal) → summarize first s ≡ Refused r → ¬ (IsSupportCopy first s proposed)
+  pub refused : (first : Bool) (s proposed : List ℕ) (r : Refusal) → summarize first s ≡ Err r → ¬ (IsSupportCopy first s proposed)

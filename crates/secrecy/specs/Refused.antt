@@ -1,6 +1,6 @@
 -- C-24, "show for refused sections what demand 3 shows for accepted ones", of what the functions promise: `judge`, `summarize`, `read`,
 -- `support_answer` and `support_bytes`. `first` says whether a SecurityHeader stands first.
-use Rattle.std.specs.Prelude.{ℕ, ◌+◌, ◌-◌, ◌<◌, ◌≡◌, Bool, true, cond, List, [], ◌++◌, length, get_or, replicate, take, eqb, ltb}
+use Rattle.std.specs.Prelude.{Err, Ok, ℕ, ◌+◌, ◌-◌, ◌<◌, ◌≡◌, Bool, true, cond, List, [], ◌++◌, length, get_or, replicate, take, eqb, ltb}
 use Rattle.octets.specs.Octets.{Octets}
 use Rattle.rules.specs.Judged.{bit, judged, security_mask}
 use Rattle.rules.specs.Properties.{properties_row}
@@ -10,9 +10,6 @@ use Rattle.rules.specs.Security.{security_fields, security_length, security_row}
 use Rattle.rules.specs.Summary.{properties_at}
 use Rattle.rules.specs.Support.{support_answer, support_bytes}
 use Rattle.rules.specs.declared.refusal.Refusal.{Refusal}
-use Rattle.rules.specs.declared.section.Output.TheVariants.{Refused as Output-as-Refused}
-use Rattle.rules.specs.declared.section.Reading.TheVariants.{Refused as Reading-as-Refused}
-use Rattle.rules.specs.declared.section.Summarized.TheVariants.{Accepted, Refused}
 use Rattle.rules.specs.declared.section.Summary.{Summary}
 
 -- Of each byte, in order, how many of its lowest bits may not differ. Of a byte behind the last one told, none may.
@@ -37,18 +34,18 @@ pub record DifferInPrivate (first : Bool) (s t : List ℕ) : Type 0 where
 
 -- every function that gives a refusal gives this one, "with the same number and place"
 pub record RefusedWith (first : Bool) (t : List ℕ) (r : Refusal) : Type 0 where
-  pub summary : summarize first t ≡ Refused r
-  pub reading : read first t ≡ Reading-as-Refused r
-  pub copy : (out : List ℕ) → (support_answer first t out ≡ Output-as-Refused r) × (support_bytes first t out ≡ out)
+  pub summary : summarize first t ≡ Err r
+  pub reading : read first t ≡ Err r
+  pub copy : (out : List ℕ) → (support_answer first t out ≡ Err r) × (support_bytes first t out ≡ out)
 
 pub record RefusedAlike : Type 0 where
   -- where no step fails the number is 0: what differs so from an accepted input is accepted
   pub same : (first : Bool) (s t : List ℕ) → Octets s → Octets t → DifferInPrivate first s t → judge first t ≡ judge first s
   -- "get the same refusal"
   pub refused : (first : Bool) (s t : List ℕ) (r : Refusal) → Octets s → Octets t → DifferInPrivate first s t
-      → summarize first s ≡ Refused r → RefusedWith first t r
+      → summarize first s ≡ Err r → RefusedWith first t r
   -- either of the two may be the one that the bits are told by
   pub either : (first : Bool) (s t : List ℕ) → Octets s → Octets t → DifferInPrivate first s t → DifferInPrivate first t s
   -- of an accepted input the bits told are those that are judged, of its SecurityHeader and of its MessagePropertiesHeader's fixed bytes
-  pub accepted : (first : Bool) (s : List ℕ) (m : Summary) → summarize first s ≡ Accepted m
+  pub accepted : (first : Bool) (s : List ℕ) (m : Summary) → summarize first s ≡ Ok m
       → held first s ≡ take (properties_at m + 56) (judged m)

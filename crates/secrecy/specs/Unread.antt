@@ -1,8 +1,7 @@
 -- 01, "The section": "Bytes after it are not read."
-use Rattle.std.specs.Prelude.{ℕ, ◌≡◌, Bool, List, ◌++◌, take}
+use Rattle.std.specs.Prelude.{Ok, ℕ, ◌≡◌, Bool, List, ◌++◌, take}
 use Rattle.rules.specs.Reading.{SameSummary, read, summarize}
 use Rattle.rules.specs.Support.{support_answer, support_bytes}
-use Rattle.rules.specs.declared.section.Summarized.TheVariants.{Accepted}
 use Rattle.rules.specs.declared.section.Summary.{Summary}
 use Rattle.secrecy.specs.Demand3.{section_length}
 
@@ -15,5 +14,5 @@ pub record ReadTheSame (first : Bool) (s t : List ℕ) : Type 0 where
 
 -- an accepted section, whatever follows it
 pub record BytesAfter : Type 0 where
-  pub unread : (first : Bool) (s rest : List ℕ) (m : Summary) → summarize first s ≡ Accepted m
+  pub unread : (first : Bool) (s rest : List ℕ) (m : Summary) → summarize first s ≡ Ok m
       → ReadTheSame first s (take (section_length m) s ++ rest)

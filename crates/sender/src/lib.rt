@@ -2,16 +2,17 @@
 // A send request written as a section, for C. The sender is compiled by itself: the section writer and a request's steps
 // then have one caller in it and one in `ugbariteyo`, and become part of each.
 ghost use Rattle.std.specs.Prelude.{◌≡◌};
-ghost use Rattle.requests.specs.Request.{send_request};
+ghost use Rattle.requests.specs.Request.{lent_request};
 ghost use Rattle.sending.specs.Send.{send_bytes};
 ghost use Rattle.ugbariteyo.specs.Request.{request_of};
 ghost use Rattle.ugbariteyo.specs.Send.{sent};
 
-use requests::section::security_first;
+use requests::request::{Request, RequestGiven};
 use sending::send::send;
-use ugbariteyo::request::{UgbRequest, request_of};
+use ugbariteyo::request::UgbRequest;
 use ugbariteyo::send::{UgbSent, sent_answer};
 
+// (C's parameters: a struct that holds a slice does not cross.)
 #[unsafe(no_mangle)]
 pub extern "C" fn ugb_send_positional(
     request: UgbRequest,
@@ -25,17 +26,13 @@ pub extern "C" fn ugb_send_positional(
     body: &[u8],
     out: &mut [u8],
 ) -> UgbSent
-    ensures value { result ≡ sent (send_request (request_of request) title sender_id encryption_key
+    ensures value { result ≡ sent (lent_request (request_of request) title sender_id encryption_key
         signature sender_cert provider_name extension body) out.old }
-    ensures out_after { out.new ≡ send_bytes (send_request (request_of request) title sender_id encryption_key
-        signature sender_cert provider_name extension body) request.correlation_id out.old }
+    ensures out_after { out.new ≡ send_bytes (lent_request (request_of request) title sender_id encryption_key
+        signature sender_cert provider_name extension body) out.old }
 {
-    let given = request_of(request);
-    let correlation_id = request.correlation_id;
-    let first = security_first(given, sender_id, encryption_key, signature, sender_cert);
-    let output = send(
-        given,
-        correlation_id,
+    let given = RequestGiven {
+        request: Request::from(request),
         title,
         sender_id,
         encryption_key,
@@ -44,7 +41,8 @@ pub extern "C" fn ugb_send_positional(
         provider_name,
         extension,
         body,
-        out,
-    );
+    };
+    let first = given.security_first();
+    let output = send(&given, out);
     sent_answer(output, first)
 }

@@ -11,7 +11,7 @@ use std::io;
 use std::io::{Read, Write};
 
 // Why a fill ended: the buffer is full, the input is over, or a read failed.
-#[derive(Clone, Copy)]
+#[derive(Clone, Copy, PartialEq, Eq)]
 pub enum Ended {
     Full,
     Over,
@@ -44,7 +44,7 @@ fn read_some<I: Read, O, E: Write>(
 }
 
 // Reads until the buffer is full or the input is over. Of a reader whose bytes are known, those that were read stand at
-// the buffer's front, and none are left where it says that the input is over.
+// the buffer's front, and none are left where it says that the input is over. (`read_exact` answers no count.)
 pub fn fill<I: Read, O, E: Write>(streams: &mut Streams<I, O, E>, buf: &mut [u8]) -> Filled
     ensures fills { Fills (length buf.old) result }
     ensures buf_len_unchanged { length buf.new ≡ length buf.old }

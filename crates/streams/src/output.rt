@@ -14,7 +14,7 @@ use std::io;
 use std::io::{Error, Write};
 
 // Writes all of it, or stops at the first write that fails or takes nothing, of which the system gives no reason. A write
-// that a signal interrupts has failed.
+// that a signal interrupts has failed. (`write_all` would go on, and promises nothing of what a failed one wrote.)
 fn write<W: Write>(to: &mut W, bytes: &[u8]) -> io::Result<()>
     ensures ok { OnOk result (Appends (W.contents to.old) (W.contents to.new) bytes.now) }
     ensures err { OnErr result (AppendsSome (W.contents to.old) (W.contents to.new) bytes.now) }
@@ -52,7 +52,7 @@ pub(crate) fn tell_failed<E: Write>(errors: &mut E, what: &[u8], error: &Error) 
     tell(errors, b"\n");
 }
 
-// Writes all of it to standard output, and answers whether it could.
+// Writes all of it to standard output, and answers whether it could: why not is told already.
 pub fn put<I, O: Write, E: Write>(streams: &mut Streams<I, O, E>, bytes: &[u8]) -> bool
     ensures put { result ≡ true → Appends (O.contents streams.old.output) (O.contents streams.new.output) bytes.now }
     ensures failed { result ≡ false

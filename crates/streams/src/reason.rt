@@ -2,9 +2,6 @@
 ghost use Rattle.std.specs.Io.{StartsWith};
 
 use crate::text::Text;
-use octets::count::Bytes;
-use octets::part::within;
-use octets::same::same;
 use std::fmt::Write;
 use std::io::Error;
 
@@ -12,14 +9,13 @@ use std::io::Error;
 pub(crate) fn words(text: &[u8]) -> &[u8]
     ensures { StartsWith text.now result.now }
 {
-    let mut i = 0;
-    while i < text.len() {
-        if same(within(text, Bytes(i), Bytes(11)), b" (os error ") {
-            return &text[..i];
-        }
-        i += 1;
+    match text
+        .windows(11)
+        .position(|w| w == b" (os error ".as_slice())
+    {
+        Some(i) => &text[..i],
+        None => text,
     }
-    text
 }
 
 // The error as std formats it.

@@ -1,10 +1,10 @@
 // A short text, formatted without an allocation.
 ghost use Rattle.std.specs.Prelude.{◌≡◌, ◌≤◌, [], ◌++◌, take};
 
-use octets::over::copy;
 use std::fmt;
 
-// The text is the first `used` bytes. A number has fewer than the room, and so has the reason of an error.
+// The text is the first `used` bytes, since std has no text in fixed memory and the project uses no other crate. A number has fewer than the room, and so has
+// the reason of an error.
 #[derive(Drop)]
 pub struct Text {
     pub bytes: [u8; 128],
@@ -40,7 +40,7 @@ impl fmt::Write for Text {
             return Err(fmt::Error);
         }
         let end = start + added.len();
-        copy(added, &mut self.bytes[start..end]);
+        self.bytes[start..end].copy_from_slice(added);
         self.used = end;
         Ok(())
     }

@@ -6,14 +6,15 @@ ghost use Rattle.streams.specs.Window.{ReadOn, Refilled, bytes_held, front, held
 
 use crate::input::{Ended, fill};
 use crate::streams::Streams;
-use octets::count::{Bytes, smaller};
+use octets::count::Bytes;
 use octets::over::move_to_front;
 use octets::part::within;
 use records::enough::is_enough;
 use std::io::{Read, Write};
 
-// The buffer's bytes from `start` to `end`; whether the input ends with them, and whether a read has failed.
-#[derive(Clone, Copy)]
+// The buffer's bytes from `start` to `end`; whether the input ends with them, and whether a read has failed. (Two marks: the
+// definition `is_enough` takes the first, `window_to` says both; the buffer is lent beside it, in fixed memory.)
+#[derive(Clone, Copy, Default)]
 pub struct Window {
     pub start: Bytes,
     pub end: Bytes,
@@ -26,35 +27,24 @@ impl Window {
     pub fn empty() -> Window
         ensures { result ≡ front 0 false false }
     {
-        Window {
-            start: Bytes(0),
-            end: Bytes(0),
-            is_over: false,
-            has_failed: false,
-        }
+        Window::default()
     }
 
     // How many bytes are held.
     pub fn held(self) -> Bytes
         ensures { result.0 ≡ held self }
     {
-        if self.end.0 < self.start.0 {
-            return Bytes(0);
-        }
-        Bytes(self.end.0 - self.start.0)
+        Bytes(self.end.0.saturating_sub(self.start.0))
     }
 
     // The same behind the first `size` bytes held, or behind all where they are fewer.
     pub fn behind(self, size: Bytes) -> Window
         ensures { result ≡ window_behind size.0 self }
     {
-        let end = self.end;
-        let taken = smaller(size, self.held());
+        let taken = size.0.min(self.held().0);
         Window {
-            start: Bytes(self.start.0 + taken.0),
-            end,
-            is_over: self.is_over,
-            has_failed: self.has_failed,
+            start: Bytes(self.start.0 + taken),
+            ..self
         }
     }
 }
@@ -66,29 +56,15 @@ pub fn bytes_held(buffer: &[u8], window: Window) -> &[u8]
     within(buffer, window.start, window.held())
 }
 
+#[tactic(auto, unfolding(crate::specs::Window::window_to))]
 fn window_to(end: Bytes, ended: Ended) -> Window
     ensures { result ≡ window_to end.0 ended }
 {
-    let start = Bytes(0);
-    match ended {
-        Ended::Full => Window {
-            start,
-            end,
-            is_over: false,
-            has_failed: false,
-        },
-        Ended::Over => Window {
-            start,
-            end,
-            is_over: true,
-            has_failed: false,
-        },
-        Ended::Failed => Window {
-            start,
-            end,
-            is_over: false,
-            has_failed: true,
-        },
+    Window {
+        start: Bytes(0),
+        end,
+        is_over: ended == Ended::Over,
+        has_failed: ended == Ended::Failed,
     }
 }
 

@@ -10,11 +10,11 @@ use crate::header::{copy_properties, copy_security, provider_start};
 use crate::placed::Placed;
 use octets::count::Bytes;
 use reading::properties::properties_fields;
-use reading::section::{base_judge, judge, properties_start};
+use reading::section::judge;
 use reading::security::security_fields;
 use rules::properties::section_end;
-use rules::refusal;
-use rules::section::{Output, output_short};
+use rules::refusal::Refusal;
+use rules::section::output_short;
 
 // The copy of a SecurityHeader, where one stands first.
 fn copy_header(s: &[u8], security_first: bool, at: Bytes, out: &mut [u8])
@@ -47,14 +47,11 @@ fn copy_section(s: &[u8], security_first: bool, section: Placed, out: &mut [u8])
 
 // Reads the section, and writes its copy where the output has room for it: else, and where reading refuses, the output
 // stays as it is.
-pub fn support_copy(s: &[u8], security_first: bool, out: &mut [u8]) -> Output
+pub fn support_copy(s: &[u8], security_first: bool, out: &mut [u8]) -> Result<Bytes, Refusal>
     ensures value { result ≡ support_answer security_first s.now out.old }
     ensures out_after { out.new ≡ support_bytes security_first s.now out.old }
 {
-    if base_judge(s, security_first).number != refusal::PASSED {
-        return Output::Refused(judge(s, security_first));
-    }
-    let start = properties_start(s, security_first);
+    let start = judge(s, security_first)?;
     let properties = properties_fields(s, start);
     let end = section_end(properties, start);
     if out.len() < end.0 {
@@ -66,5 +63,5 @@ pub fn support_copy(s: &[u8], security_first: bool, out: &mut [u8]) -> Output
         end,
     };
     copy_section(s, security_first, section, out);
-    Output::Written(end)
+    Ok(end)
 }

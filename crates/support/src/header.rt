@@ -7,15 +7,14 @@ ghost use Rattle.rules.specs.Row.{row_bits};
 ghost use Rattle.rules.specs.Security.{provider_at, security_length};
 ghost use Rattle.support.specs.Laid.{PropertiesLaid, SecurityLaid};
 
-use crate::run::{
-    hide, is_hidden, is_hidden_long, is_kept, is_kept_long, is_low_four, keep, low_four,
-};
-use octets::count::Bytes;
+use crate::run::{hide, is_hidden, is_hidden_long, is_kept, is_low_four, keep, low_four};
+use octets::count::{Bytes, smaller};
 use octets::padding::padding;
 use rules::properties::PropertiesFields;
 use rules::security::{AU, SecurityFields};
 
 // Of an identity of ST 1 the first two bytes are judged.
+#[tactic(auto, unfolding(rules::specs::Judged::judged_identity))]
 fn judged_identity(f: SecurityFields) -> Bytes
     ensures { result.0 ≡ judged_identity f }
 {
@@ -23,13 +22,11 @@ fn judged_identity(f: SecurityFields) -> Bytes
     if flags % AU != 1 {
         return Bytes(0);
     }
-    if f.sender_id_size.0 < 2 {
-        return f.sender_id_size;
-    }
-    Bytes(2)
+    smaller(Bytes(2), f.sender_id_size)
 }
 
 // Where the provider info of a header of `size` bytes begins.
+#[tactic(auto, unfolding(rules::specs::Security::security_length, octets::specs::Padding::padded))]
 pub(crate) fn provider_start(f: SecurityFields, size: Bytes) -> Bytes
     requires { size.0 ≡ security_length f }
     ensures { result.0 ≡ provider_at f }
@@ -82,7 +79,7 @@ pub(crate) fn is_security_copy(
         & is_kept(s, proposed, Bytes(2), Bytes(14))
         & is_kept(s, proposed, Bytes(16), identity)
         & is_hidden_long(proposed, Bytes(hidden), Bytes(provider.0 - hidden))
-        & is_kept_long(s, proposed, provider, info)
+        & is_kept(s, proposed, provider, info)
         & is_hidden(proposed, Bytes(padding), Bytes(size.0 - padding))
 }
 
@@ -116,7 +113,7 @@ fn is_head_copy(s: &[u8], label: Bytes, proposed: &[u8]) -> bool
         & is_kept(s, proposed, Bytes(24), Bytes(4))
         & is_hidden(proposed, Bytes(28), Bytes(4))
         & is_kept(s, proposed, Bytes(32), Bytes(24))
-        & is_kept_long(s, proposed, Bytes(56), label)
+        & is_kept(s, proposed, Bytes(56), label)
 }
 
 // Extension and body may be long: they are looked at only where the rest is right.

@@ -9,10 +9,9 @@ use crate::header::{is_properties_copy, is_security_copy, provider_start};
 use crate::placed::Placed;
 use octets::count::Bytes;
 use reading::properties::properties_fields;
-use reading::section::{base_judge, properties_start};
+use reading::section::base_judge;
 use reading::security::security_fields;
 use rules::properties::section_end;
-use rules::refusal;
 
 // The SecurityHeader, where one stands first.
 fn is_header_copy(s: &[u8], security_first: bool, at: Bytes, proposed: &[u8]) -> bool
@@ -50,10 +49,9 @@ fn is_section_copy(s: &[u8], security_first: bool, section: Placed, proposed: &[
 pub fn is_support_copy(s: &[u8], security_first: bool, proposed: &[u8]) -> bool
     ensures { (result ≡ true) ↔ IsSupportCopy security_first s.now proposed.now }
 {
-    if base_judge(s, security_first).number != refusal::PASSED {
-        return false;
-    }
-    let start = properties_start(s, security_first);
+    let Ok(start) = base_judge(s, security_first) else {
+        return false; // a refused section has no copy
+    };
     let properties = properties_fields(s, start);
     let end = section_end(properties, start);
     if proposed.len() != end.0 {

@@ -1,12 +1,12 @@
 // Runs of a copy, written, and looked for in a proposed one: bytes kept, a byte of which the low four bits are kept, bytes
-// of which none are.
+// of which none are. (Offset and count by themselves: as a `Part` no call would be plainer.)
 ghost use Rattle.std.specs.Prelude.{◌≡◌, true, ◌↔◌, ◌+◌, ◌≤◌, ◌<◌, drop, length, replicate, take};
 ghost use Rattle.octets.specs.Over.{over_at};
 ghost use Rattle.rules.specs.Judged.{masked};
 
 use octets::count::Bytes;
 use octets::over::{copy, zero};
-use octets::same::{all_zero, all_zero_long, same, same_long};
+use octets::same::{all_zero, all_zero_long, same};
 
 pub(crate) fn keep(s: &[u8], out: &mut [u8], at: Bytes, n: Bytes)
     requires n_in_bounds { at.0 + n.0 ≤ length s.now }
@@ -28,17 +28,6 @@ pub(crate) fn is_kept(s: &[u8], proposed: &[u8], at: Bytes, n: Bytes) -> bool
     same(&s[start..end], &proposed[start..end])
 }
 
-// The same, for many bytes.
-pub(crate) fn is_kept_long(s: &[u8], proposed: &[u8], at: Bytes, n: Bytes) -> bool
-    requires n_in_bounds { at.0 + n.0 ≤ length s.now }
-    requires n_in_bounds_2 { at.0 + n.0 ≤ length proposed.now }
-    ensures { (result ≡ true) ↔ (take n.0 (drop at.0 proposed.now) ≡ masked (replicate n.0 8) (drop at.0 s.now)) }
-{
-    let start = at.0;
-    let end = start + n.0;
-    same_long(&s[start..end], &proposed[start..end])
-}
-
 pub(crate) fn low_four(s: &[u8], out: &mut [u8], at: Bytes)
     requires at_in_bounds { at.0 < length s.now }
     requires at_in_bounds_2 { at.0 < length out.old }
@@ -48,6 +37,7 @@ pub(crate) fn low_four(s: &[u8], out: &mut [u8], at: Bytes)
     out[i] = s[i] % 16;
 }
 
+#[tactic(auto, unfolding(rules::specs::Judged::masked))]
 pub(crate) fn is_low_four(s: &[u8], proposed: &[u8], at: Bytes) -> bool
     requires at_in_bounds { at.0 < length s.now }
     requires at_in_bounds_2 { at.0 < length proposed.now }
@@ -75,7 +65,7 @@ pub(crate) fn is_hidden(proposed: &[u8], at: Bytes, n: Bytes) -> bool
     all_zero(&proposed[start..end])
 }
 
-// The same, for many bytes.
+// The same, for many bytes, as `all_zero_long` is.
 pub(crate) fn is_hidden_long(proposed: &[u8], at: Bytes, n: Bytes) -> bool
     requires { at.0 + n.0 ≤ length proposed.now }
     ensures { (result ≡ true) ↔ (take n.0 (drop at.0 proposed.now) ≡ replicate n.0 0) }

@@ -1,6 +1,7 @@
 -- No refusal has the number 0: the steps of reading, writing and images are refused only where their number is not 0, and the numbers of a
 -- request's steps, and 13, are none.
 use Prim.Native.Nat.{ℕ}
+use Rattle.std.specs.Prelude.{Err, Ok, Result, ⊤}
 use mathlib.Core.Path.{◌≡◌, refl}
 use mathlib.Core.Bool.{Bool, true, false, not, ◌&&◌, cond, and-eq-true_iff}
 use mathlib.Core.List.{List, [], ◌∷◌, ◌++◌}
@@ -14,25 +15,17 @@ use Rattle.rules.specs.Reading.{full_reading, judge, read, summarize, summary_at
 use Rattle.rules.specs.Refusal.{refusal}
 use Rattle.rules.specs.Summary.{section_of}
 use Rattle.rules.specs.Support.{copy_answer, support_answer}
-use Rattle.rules.specs.declared.refusal.Checked.{Checked}
-use Rattle.rules.specs.declared.refusal.Checked.TheVariants.{Passed, Refused as Checked-as-Refused}
 use Rattle.rules.specs.declared.refusal.Refusal.{Refusal}
-use Rattle.rules.specs.declared.section.Output.{Output}
-use Rattle.rules.specs.declared.section.Output.TheVariants.{Written, Refused}
 use Rattle.rules.specs.declared.section.Part.{Part}
-use Rattle.rules.specs.declared.section.Reading.TheVariants.{Accepted as Reading-as-Accepted}
 use Rattle.writing.specs.Writing.{layout_length, write_answer, write_refusal}
 use Rattle.queues.specs.Read.{image_of, image_steps, read_image}
 use Rattle.queues.specs.Write.{image_bytes, write_answer as write_image, write_steps}
-use Rattle.queues.specs.declared.image.ImageRead.TheVariants.{Accepted as ImageRead-as-Accepted}
 use Rattle.requests.specs.Defaults.{correlation_of, properties}
 use Rattle.requests.specs.Request.{SendRequest}
 use Rattle.requests.specs.Section.{first, section_length}
 use Rattle.requests.specs.Steps.{answer_of, defaulted, first_failure, from25, refused, request_steps, steps, up_to24}
-use Rattle.requests.specs.declared.properties.Defaulted.TheVariants.{Properties as Defaulted-as-Properties}
 use Rattle.sending.specs.Send.{answer_after, send_answer}
 use Rattle.records.specs.Record.{answer_of as listing_answer}
-use Rattle.records.specs.declared.record.Answer.TheVariants.{Accepted as Answer-as-Accepted}
 use Rattle.ugbariteyo.specs.Defaulted.{answer_with, defaulted_answer}
 use Rattle.ugbariteyo.specs.Output.{output_answer}
 use Rattle.ugbariteyo.specs.Queue.{image_answer}
@@ -55,8 +48,8 @@ unfolding read summarize full_reading reading_answer
 reading first s = go (eqb (judge first s).number 0) refl
   where
     go : (b : Bool) → eqb (judge first s).number 0 ≡ b → ReadingTold (read first s)
-    go true e = rw e (told-accepted Reading-as-Accepted (section_of (summary_at first s) s))
-    go false e = rw e (told-refused Reading-as-Accepted _ _ _ (eqb-false (judge first s).number 0 e) (λ w f. let z : ◌≡◌ {A = ℕ} 0 1 = cc in omega arith))
+    go true e = rw e (told-accepted Ok (section_of (summary_at first s) s))
+    go false e = rw e (told-refused Ok _ _ _ (eqb-false (judge first s).number 0 e) (λ w f. let z : ◌≡◌ {A = ℕ} 0 1 = cc in omega arith))
 
 -- a record's section
 listing : (size : Bytes) (first : Bool) (section : Part) (s : List ℕ) → ListedTold size first section (listing_answer (summarize first s))
@@ -64,34 +57,34 @@ unfolding summarize listing_answer found record_filled
 listing size first section s = go (eqb (judge first s).number 0) refl
   where
     go : (b : Bool) → eqb (judge first s).number 0 ≡ b → ListedTold size first section (listing_answer (summarize first s))
-    go true e = rw e (told-accepted Answer-as-Accepted _)
-    go false e = rw e (told-refused Answer-as-Accepted _ _ _ (eqb-false (judge first s).number 0 e) (λ w f. let z : ◌≡◌ {A = ℕ} 0 1 = cc in omega arith))
+    go true e = rw e (told-accepted Ok _)
+    go false e = rw e (told-refused Ok _ _ _ (eqb-false (judge first s).number 0 e) (λ w f. let z : ◌≡◌ {A = ℕ} 0 1 = cc in omega arith))
 
 -- images
-image_reading : (s : List ℕ) → Told ImageRead-as-Accepted (read_image s) (image_answer (read_image s)).refusal.number (image_of s)
+image_reading : (s : List ℕ) → Told Ok (read_image s) (image_answer (read_image s)).refusal.number (image_of s)
 unfolding read_image image_answer
 image_reading s = go (eqb (image_steps s) 0) refl
   where
     go : (b : Bool) → eqb (image_steps s) 0 ≡ b
-        → Told ImageRead-as-Accepted (read_image s) (image_answer (read_image s)).refusal.number (image_of s)
-    go true e = rw e (told-accepted ImageRead-as-Accepted (image_of s))
-    go false e = rw e (told-refused ImageRead-as-Accepted _ _ _ (eqb-false (image_steps s) 0 e) (λ w f. let z : ◌≡◌ {A = ℕ} 0 1 = cc in omega arith))
+        → Told Ok (read_image s) (image_answer (read_image s)).refusal.number (image_of s)
+    go true e = rw e (told-accepted Ok (image_of s))
+    go false e = rw e (told-refused Ok _ _ _ (eqb-false (image_steps s) 0 e) (λ w f. let z : ◌≡◌ {A = ℕ} 0 1 = cc in omega arith))
 
 -- what writes: its refusal, if any, has a number
-abbrev pub Numbered : Output → Type 0
-Numbered (Written n) = Unit {0}
-Numbered (Refused r) = ¬ (r.number ≡ 0)
+abbrev pub Numbered : Result Bytes Refusal → Type 0
+Numbered (Ok n) = Unit {0}
+Numbered (Err r) = ¬ (r.number ≡ 0)
 
-pub written-told : (o : Output) → Numbered o → WrittenTold o
+pub written-told : (o : Result Bytes Refusal) → Numbered o → WrittenTold o
 unfolding output_answer
-written-told (Written n) h = told-accepted Written n
-written-told (Refused r) h = told-refused Written _ _ _ h (λ w f. let z : ◌≡◌ {A = ℕ} 0 1 = cc in omega arith)
+written-told (Ok n) h = told-accepted Ok n
+written-told (Err r) h = told-refused Ok _ _ _ h (λ w f. let z : ◌≡◌ {A = ℕ} 0 1 = cc in omega arith)
 
-sent-told : (first : Bool) (o : Output) → Numbered o
-    → Told Written o (sent_answer first o).refusal.number (sent_answer first o).length
+sent-told : (first : Bool) (o : Result Bytes Refusal) → Numbered o
+    → Told Ok o (sent_answer first o).refusal.number (sent_answer first o).length
 unfolding sent_answer
-sent-told first (Written n) h = told-accepted Written n
-sent-told first (Refused r) h = told-refused Written _ _ _ h (λ w f. let z : ◌≡◌ {A = ℕ} 0 1 = cc in omega arith)
+sent-told first (Ok n) h = told-accepted Ok n
+sent-told first (Err r) h = told-refused Ok _ _ _ h (λ w f. let z : ◌≡◌ {A = ℕ} 0 1 = cc in omega arith)
 
 -- a writer's answer: the steps' refusal where its number is not 0, or 13
 pub writer-numbered : (r : Refusal) (n : ℕ) (out : List ℕ) → Numbered (writer_answer r n out)
@@ -116,11 +109,11 @@ numbers : List (Bool × ℕ) → Bool
 numbers [] = true
 numbers (s ∷ ss) = not (eqb s.1 0) && numbers ss
 
-abbrev FailureNumbered : Checked → Type 0
-FailureNumbered Passed = Unit {0}
-FailureNumbered (Checked-as-Refused r) = ¬ (r.number ≡ 0)
+abbrev FailureNumbered : Result ⊤ Refusal → Type 0
+FailureNumbered (Ok tt) = Unit {0}
+FailureNumbered (Err r) = ¬ (r.number ≡ 0)
 
-step-numbered : (b : Bool) (n : ℕ) (next : Checked) → ¬ (n ≡ 0) → FailureNumbered next → FailureNumbered (cond b (refused n) next)
+step-numbered : (b : Bool) (n : ℕ) (next : Result ⊤ Refusal) → ¬ (n ≡ 0) → FailureNumbered next → FailureNumbered (cond b (refused n) next)
 step-numbered true n next some rest = some
 step-numbered false n next some rest = rest
 
@@ -131,16 +124,16 @@ failure-numbered (s ∷ ss) h =
     let a = (and-eq-true_iff (not (eqb s.1 0)) (numbers ss)).0 h in
     step-numbered s.0 s.1 (first_failure ss) (eqb-false s.1 0 (not-true (eqb s.1 0) a.0)) (failure-numbered ss a.1)
 
-defaulting : (q : SendRequest) (id : List ℕ) (c : Checked) → FailureNumbered c
-    → Told Defaulted-as-Properties (answer_of (properties q) c) (answer_with id (answer_of (properties q) c)).refusal.number (properties q)
+defaulting : (q : SendRequest) (id : List ℕ) (c : Result ⊤ Refusal) → FailureNumbered c
+    → Told Ok (answer_of (properties q) c) (answer_with id (answer_of (properties q) c)).refusal.number (properties q)
 unfolding answer_of answer_with
-defaulting q id Passed h = told-accepted Defaulted-as-Properties (properties q)
-defaulting q id (Checked-as-Refused r) h = told-refused Defaulted-as-Properties _ _ _ h (λ w f. let z : ◌≡◌ {A = ℕ} 0 1 = cc in omega arith)
+defaulting q id (Ok tt) h = told-accepted Ok (properties q)
+defaulting q id (Err r) h = told-refused Ok _ _ _ h (λ w f. let z : ◌≡◌ {A = ℕ} 0 1 = cc in omega arith)
 
-sending : (q : SendRequest) (out : List ℕ) (c : Checked) → FailureNumbered c → Numbered (answer_after q out (answer_of (properties q) c))
+sending : (q : SendRequest) (out : List ℕ) (c : Result ⊤ Refusal) → FailureNumbered c → Numbered (answer_after q out (answer_of (properties q) c))
 unfolding answer_of answer_after
-sending q out Passed h = writer-numbered (refusal 0 0) (section_length q) out
-sending q out (Checked-as-Refused r) h = h
+sending q out (Ok tt) h = writer-numbered (refusal 0 0) (section_length q) out
+sending q out (Err r) h = h
 
 request-numbered : (q : SendRequest) → FailureNumbered (request_steps q)
 unfolding request_steps steps up_to24 from25 numbers
@@ -157,7 +150,7 @@ number-tells =
       image_writing =
           λ f fixed text out. written-told _
           (writer-numbered (refusal (write_steps f fixed text) 0) (length (image_bytes f (fixed ++ text))) out);
-      defaulting = λ q id. defaulting q (correlation_of q.values id) (request_steps q) (request-numbered q);
+      defaulting = λ q. defaulting q (correlation_of q.values) (request_steps q) (request-numbered q);
       sending = λ q out. sent-told (first q) _ (sending q out (request_steps q) (request-numbered q));
       listing = listing;
     }

@@ -1,16 +1,10 @@
 -- The properties of a message as one struct: what is not known, or absent, is a mark beside zeros.
-use Rattle.std.specs.Prelude.{true, false}
-use Rattle.requests.specs.declared.properties.Handling.{Handling}
-use Rattle.requests.specs.declared.properties.Handling.TheVariants.{Known as Handling-as-Known, NotKnown as Handling-as-NotKnown}
+use Rattle.std.specs.Prelude.{None, Option, Some, ℕ, true, false}
+use Rattle.requests.specs.declared.properties.HandlingValues.{HandlingValues}
+use Rattle.requests.specs.declared.properties.SenderValues.{SenderValues}
 use Rattle.requests.specs.declared.properties.Privacy.{Privacy}
 use Rattle.requests.specs.declared.properties.Privacy.TheVariants.{Packet as Privacy-as-Packet, Request as Privacy-as-Request}
 use Rattle.requests.specs.declared.properties.Properties.{Properties}
-use Rattle.requests.specs.declared.properties.ProviderType.{ProviderType}
-use Rattle.requests.specs.declared.properties.ProviderType.TheVariants.{Known as ProviderType-as-Known, NotKnown as ProviderType-as-NotKnown}
-use Rattle.requests.specs.declared.properties.Sender.{Sender}
-use Rattle.requests.specs.declared.properties.Sender.TheVariants.{Known as Sender-as-Known, NotKnown as Sender-as-NotKnown}
-use Rattle.requests.specs.declared.request.Number.{Number}
-use Rattle.requests.specs.declared.request.Number.TheVariants.{Absent, Given}
 use Rattle.ugbariteyo.specs.declared.properties.UgbHandling.{UgbHandling}
 use Rattle.ugbariteyo.specs.declared.properties.UgbPrivacy.{UgbPrivacy}
 use Rattle.ugbariteyo.specs.declared.properties.UgbProperties.{UgbProperties}
@@ -20,13 +14,9 @@ use Rattle.ugbariteyo.specs.declared.request.UgbNumber.{UgbNumber}
 unfoldable pub no_number : UgbNumber
 no_number = record { given = false; number = 0 }
 
-unfoldable pub number_answer : Number → UgbNumber
-number_answer Absent = no_number
-number_answer (Given n) = record { given = true; number = n }
-
-unfoldable pub provider_type_answer : ProviderType → UgbNumber
-provider_type_answer ProviderType-as-NotKnown = no_number
-provider_type_answer (ProviderType-as-Known n) = record { given = true; number = n }
+unfoldable pub number_answer : Option ℕ → UgbNumber
+number_answer None = no_number
+number_answer (Some n) = record { given = true; number = n }
 
 unfoldable pub no_handling : UgbHandling
 no_handling =
@@ -44,9 +34,9 @@ no_handling =
       time_to_live = 0;
     }
 
-unfoldable pub handling_answer : Handling → UgbHandling
-handling_answer Handling-as-NotKnown = no_handling
-handling_answer (Handling-as-Known v) =
+unfoldable pub handling_answer : Option HandlingValues → UgbHandling
+handling_answer None = no_handling
+handling_answer (Some v) =
     record {
       known = true;
       priority = v.priority;
@@ -64,9 +54,9 @@ handling_answer (Handling-as-Known v) =
 unfoldable pub no_sender : UgbSender
 no_sender = record { known = false; kind = 0; default_provider = false; encryption = false }
 
-unfoldable pub sender_answer : Sender → UgbSender
-sender_answer Sender-as-NotKnown = no_sender
-sender_answer (Sender-as-Known v) =
+unfoldable pub sender_answer : Option SenderValues → UgbSender
+sender_answer None = no_sender
+sender_answer (Some v) =
     record { known = true; kind = v.kind; default_provider = v.default_provider; encryption = v.encryption }
 
 unfoldable pub privacy_answer : Privacy → UgbPrivacy
@@ -78,7 +68,7 @@ properties_answer p =
     record {
       handling = handling_answer p.handling;
       sender = sender_answer p.sender;
-      provider_type = provider_type_answer p.provider_type;
+      provider_type = number_answer p.provider_type;
       message_class = p.message_class;
       acknowledge = p.acknowledge;
       application_tag = p.application_tag;

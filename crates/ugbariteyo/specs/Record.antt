@@ -1,5 +1,7 @@
 -- The next record of a day's file as one struct: nothing else is set where no record is found, and no value where its section is refused.
-use Rattle.std.specs.Prelude.{ℕ, ◌-◌, ◌≡◌, Bool, false, List}
+use Rattle.std.specs.Prelude.{Err, Ok, Result, ℕ, ◌-◌, ◌≡◌, Bool, false, List}
+use Rattle.records.specs.declared.head.Next.TheVariants.{End, Found, Stop}
+use Rattle.records.specs.declared.head.Next.{Next}
 use Rattle.octets.specs.declared.count.Bytes.{Bytes}
 use Rattle.rules.specs.Reading.{summarize}
 use Rattle.rules.specs.Refusal.{bytes}
@@ -8,11 +10,7 @@ use Rattle.rules.specs.Summary.{part_of}
 use Rattle.rules.specs.declared.refusal.Refusal.{Refusal}
 use Rattle.rules.specs.declared.section.Part.{Part}
 use Rattle.records.specs.Record.{answer_of}
-use Rattle.records.specs.declared.record.Answer.{Answer}
-use Rattle.records.specs.declared.record.Answer.TheVariants.{Accepted, Refused}
 use Rattle.records.specs.declared.record.Line.{Line}
-use Rattle.records.specs.declared.record.Next.{Next}
-use Rattle.records.specs.declared.record.Next.TheVariants.{End, Stop, Found}
 use Rattle.records.specs.declared.record.Record.{Record}
 use Rattle.ugbariteyo.specs.Zero.{no_refusal}
 use Rattle.ugbariteyo.specs.declared.record.UgbRecord.{UgbRecord}
@@ -56,15 +54,15 @@ unfoldable pub nothing_found : ℕ → UgbRecord
 nothing_found next = record_filled next (bytes 0) false (part 0 0) no_refusal no_line
 
 -- a section with what the listing says of it
-unfoldable pub found : Bytes → Bool → Part → Answer → UgbRecord
-found size first section (Accepted line) = record_filled 2 size first section no_refusal line
-found size first section (Refused r) = record_filled 2 size first section r no_line
+unfoldable pub found : Bytes → Bool → Part → Result Line Refusal → UgbRecord
+found size first section (Ok line) = record_filled 2 size first section no_refusal line
+found size first section (Err r) = record_filled 2 size first section r no_line
 
 -- the section lies behind a head of 8 bytes
 unfoldable pub found_answer : Record → UgbRecord
 found_answer x = found x.size x.security_first (part 8 (x.size.0 - 8)) x.answer
 
-unfoldable pub record_answer : Next → UgbRecord
+unfoldable pub record_answer : Next Record → UgbRecord
 record_answer End = nothing_found 0
 record_answer Stop = nothing_found 1
 record_answer (Found x) = found_answer x

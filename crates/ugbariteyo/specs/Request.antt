@@ -1,24 +1,12 @@
 -- A send request as C gives it: what may be absent is a mark beside a number.
-use Rattle.std.specs.Prelude.{Bool, cond}
-use Rattle.octets.specs.declared.count.Bytes.{Bytes}
-use Rattle.requests.specs.declared.request.Body.{Body}
-use Rattle.requests.specs.declared.request.Body.TheVariants.{Absent as Body-as-Absent, Given as Body-as-Given}
-use Rattle.requests.specs.declared.request.Correlation.{Correlation}
-use Rattle.requests.specs.declared.request.Correlation.TheVariants.{Absent as Correlation-as-Absent, Given as Correlation-as-Given}
-use Rattle.requests.specs.declared.request.Number.{Number}
-use Rattle.requests.specs.declared.request.Number.TheVariants.{Absent, Given}
+use Rattle.std.specs.Prelude.{ℕ, Option}
+use Rattle.std.specs.Bool.{then_some}
 use Rattle.requests.specs.declared.request.Request.{Request}
 use Rattle.ugbariteyo.specs.declared.request.UgbNumber.{UgbNumber}
 use Rattle.ugbariteyo.specs.declared.request.UgbRequest.{UgbRequest}
 
-unfoldable pub number_of : UgbNumber → Number
-number_of n = cond n.given (Given n.number) Absent
-
-unfoldable pub correlation_of : Bool → Correlation
-correlation_of given = cond given Correlation-as-Given Correlation-as-Absent
-
-unfoldable pub body_of : Bool → Bytes → Body
-body_of given allocation = cond given (Body-as-Given allocation) Body-as-Absent
+abbrev pub number_of : UgbNumber → Option ℕ
+number_of n = then_some n.given n.number
 
 unfoldable pub request_of : UgbRequest → Request
 request_of q =
@@ -40,8 +28,8 @@ request_of q =
       provider_name_length = q.provider_name_length;
       time_to_queue = q.time_to_queue;
       time_to_live = q.time_to_live;
-      correlation = correlation_of q.correlation_given;
-      body = body_of q.body_given q.allocation_body_size;
+      correlation_id = then_some q.correlation_given q.correlation_id;
+      body = then_some q.body_given q.allocation_body_size;
       transaction = q.transaction;
       direct_queue = q.direct_queue;
       default_provider = q.default_provider;

@@ -3,7 +3,7 @@ ghost use Rattle.std.specs.Prelude.{◌≡◌, true, ◌↔◌};
 ghost use Rattle.rules.specs.Support.{IsSupportCopy, support_answer, support_bytes};
 ghost use Rattle.ugbariteyo.specs.Output.{output_answer};
 
-use crate::output::{UgbOutput, output_answer};
+use crate::output::UgbOutput;
 use support::copy::support_copy;
 use support::proposed::is_support_copy;
 
@@ -11,7 +11,7 @@ pub fn ugb_support_copy(s: &[u8], security_first: bool, out: &mut [u8]) -> UgbOu
     ensures value { result ≡ output_answer (support_answer security_first s.now out.old) }
     ensures out_after { out.new ≡ support_bytes security_first s.now out.old }
 {
-    output_answer(support_copy(s, security_first, out))
+    UgbOutput::from(support_copy(s, security_first, out))
 }
 
 pub fn ugb_is_support_copy(s: &[u8], security_first: bool, proposed: &[u8]) -> bool

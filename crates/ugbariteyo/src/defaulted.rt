@@ -1,14 +1,14 @@
-// The defaulted properties of a send request.
+// The defaulted properties of a send request, with C's parameters: a struct that holds a slice does not cross.
 ghost use Rattle.std.specs.Prelude.{◌≡◌};
-ghost use Rattle.requests.specs.Request.{send_request};
+ghost use Rattle.requests.specs.Request.{lent_request};
 ghost use Rattle.ugbariteyo.specs.Defaulted.{defaulted_answer};
 ghost use Rattle.ugbariteyo.specs.Request.{request_of};
 
-use crate::properties::{UgbProperties, properties_answer, ugb_properties_of};
-use crate::request::{UgbRequest, request_of};
+use crate::properties::{UgbProperties, ugb_properties_of};
+use crate::request::UgbRequest;
 use crate::zero::{no_refusal, no_section};
-use defaulting::defaulted::{correlation_of, defaulted};
-use requests::properties::Defaulted;
+use defaulting::defaulted::defaulted;
+use requests::request::{Request, RequestGiven};
 use rules::refusal::Refusal;
 use rules::section::CorrelationId;
 
@@ -20,6 +20,7 @@ pub struct UgbDefaulted {
     pub correlation_id: CorrelationId,
 }
 
+#[tactic(auto, unfolding(crate::specs::Defaulted::defaulted_answer, crate::specs::Defaulted::answer_with))]
 pub fn ugb_defaulted_positional(
     request: UgbRequest,
     title: &[u16],
@@ -31,13 +32,12 @@ pub fn ugb_defaulted_positional(
     extension: &[u8],
     body: &[u8],
 ) -> UgbDefaulted
-    ensures { result ≡ defaulted_answer (send_request (request_of request) title sender_id encryption_key
-        signature sender_cert provider_name extension body) request.correlation_id }
+    ensures { result ≡ defaulted_answer (lent_request (request_of request) title sender_id encryption_key
+        signature sender_cert provider_name extension body) }
 {
-    let given = request_of(request);
-    let correlation_id = request.correlation_id;
-    match defaulted(
-        given,
+    let request = Request::from(request);
+    let given = RequestGiven {
+        request,
         title,
         sender_id,
         encryption_key,
@@ -46,16 +46,17 @@ pub fn ugb_defaulted_positional(
         provider_name,
         extension,
         body,
-    ) {
-        Defaulted::Refused(refusal) => UgbDefaulted {
+    };
+    match defaulted(&given) {
+        Err(refusal) => UgbDefaulted {
             refusal,
             properties: ugb_properties_of(no_section()),
             correlation_id: [0u8; 20],
         },
-        Defaulted::Properties(p) => UgbDefaulted {
+        Ok(p) => UgbDefaulted {
             refusal: no_refusal(),
-            properties: properties_answer(p),
-            correlation_id: correlation_of(given, correlation_id),
+            properties: UgbProperties::from(p),
+            correlation_id: request.correlation_id(),
         },
     }
 }

@@ -5,7 +5,6 @@ ghost use Rattle.ugbariteyo.specs.Output.{output_answer};
 use crate::zero::no_refusal;
 use octets::count::Bytes;
 use rules::refusal::Refusal;
-use rules::section::Output;
 
 #[repr(C)]
 #[derive(Clone, Copy)]
@@ -14,17 +13,20 @@ pub struct UgbOutput {
     pub length: Bytes,
 }
 
-pub fn output_answer(output: Output) -> UgbOutput
-    ensures { result ≡ output_answer output }
-{
-    match output {
-        Output::Refused(refusal) => UgbOutput {
-            refusal,
-            length: Bytes(0),
-        },
-        Output::Written(length) => UgbOutput {
-            refusal: no_refusal(),
-            length,
-        },
+impl From<Result<Bytes, Refusal>> for UgbOutput {
+    #[tactic(auto, unfolding(crate::specs::Output::output_answer))]
+    fn from(output: Result<Bytes, Refusal>) -> Self
+        ensures { result ≡ output_answer output }
+    {
+        match output {
+            Err(refusal) => UgbOutput {
+                refusal,
+                length: Bytes(0),
+            },
+            Ok(length) => UgbOutput {
+                refusal: no_refusal(),
+                length,
+            },
+        }
     }
 }

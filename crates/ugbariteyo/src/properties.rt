@@ -1,19 +1,17 @@
 // The properties of a message as one struct: what is not known, or absent, is a mark beside zeros.
 ghost use Rattle.std.specs.Prelude.{◌≡◌};
 ghost use Rattle.requests.specs.Carried.{section_properties};
-ghost use Rattle.ugbariteyo.specs.Properties.{handling_answer, no_handling, no_number, no_sender, number_answer};
-ghost use Rattle.ugbariteyo.specs.Properties.{privacy_answer, properties_answer, provider_type_answer, sender_answer};
+ghost use Rattle.ugbariteyo.specs.Properties.{handling_answer, number_answer, privacy_answer, properties_answer, sender_answer};
 
 use crate::request::UgbNumber;
 use octets::count::{Bytes, Units};
 use requests::carried::section_properties;
-use requests::properties::{Handling, Privacy, Properties, ProviderType, Sender};
-use requests::request::Number;
+use requests::properties::{HandlingValues, Privacy, Properties, SenderValues};
 use rules::section::Section;
 
 // What no section carries.
 #[repr(C)]
-#[derive(Clone, Copy)]
+#[derive(Clone, Copy, Default)]
 pub struct UgbHandling {
     pub known: bool,
     pub priority: u32,
@@ -30,7 +28,7 @@ pub struct UgbHandling {
 
 // What only a SecurityHeader carries.
 #[repr(C)]
-#[derive(Clone, Copy)]
+#[derive(Clone, Copy, Default)]
 pub struct UgbSender {
     pub known: bool,
     pub kind: u32,
@@ -65,65 +63,29 @@ pub struct UgbProperties {
     pub signature: Bytes,
 }
 
-fn no_number() -> UgbNumber
-    ensures { result ≡ no_number }
-{
-    UgbNumber {
-        given: false,
-        number: 0,
+impl From<Option<u32>> for UgbNumber {
+    #[tactic(auto, unfolding(crate::specs::Properties::number_answer, crate::specs::Properties::no_number))]
+    fn from(n: Option<u32>) -> Self
+        ensures { result ≡ number_answer n }
+    {
+        match n {
+            None => UgbNumber::default(),
+            Some(number) => UgbNumber {
+                given: true,
+                number,
+            },
+        }
     }
 }
 
-fn number_answer(n: Number) -> UgbNumber
-    ensures { result ≡ number_answer n }
-{
-    match n {
-        Number::Absent => no_number(),
-        Number::Given(number) => UgbNumber {
-            given: true,
-            number,
-        },
-    }
-}
-
-fn provider_type_answer(p: ProviderType) -> UgbNumber
-    ensures { result ≡ provider_type_answer p }
-{
-    match p {
-        ProviderType::NotKnown => no_number(),
-        ProviderType::Known(number) => UgbNumber {
-            given: true,
-            number,
-        },
-    }
-}
-
-fn no_handling() -> UgbHandling
-    ensures { result ≡ no_handling }
-{
-    UgbHandling {
-        known: false,
-        priority: 0,
-        trace: 0,
-        delivery: 0,
-        auditing: 0,
-        transaction: false,
-        direct_queue: false,
-        split_number: no_number(),
-        provider_name_length: 0,
-        time_to_queue: 0,
-        time_to_live: 0,
-    }
-}
-
-fn handling_answer(h: Handling) -> UgbHandling
-    ensures { result ≡ handling_answer h }
-{
-    match h {
-        Handling::NotKnown => no_handling(),
-        Handling::Known(v) => {
-            let split_number = v.split_number;
-            UgbHandling {
+impl From<Option<HandlingValues>> for UgbHandling {
+    #[tactic(auto, unfolding(crate::specs::Properties::handling_answer, crate::specs::Properties::no_handling, crate::specs::Properties::no_number))]
+    fn from(h: Option<HandlingValues>) -> Self
+        ensures { result ≡ handling_answer h }
+    {
+        match h {
+            None => UgbHandling::default(),
+            Some(v) => UgbHandling {
                 known: true,
                 priority: v.priority,
                 trace: v.trace,
@@ -131,81 +93,71 @@ fn handling_answer(h: Handling) -> UgbHandling
                 auditing: v.auditing,
                 transaction: v.transaction,
                 direct_queue: v.direct_queue,
-                split_number: number_answer(split_number),
+                split_number: UgbNumber::from(v.split_number),
                 provider_name_length: v.provider_name_length,
                 time_to_queue: v.time_to_queue,
                 time_to_live: v.time_to_live,
-            }
+            },
         }
     }
 }
 
-fn no_sender() -> UgbSender
-    ensures { result ≡ no_sender }
-{
-    UgbSender {
-        known: false,
-        kind: 0,
-        default_provider: false,
-        encryption: false,
+impl From<Option<SenderValues>> for UgbSender {
+    #[tactic(auto, unfolding(crate::specs::Properties::sender_answer, crate::specs::Properties::no_sender))]
+    fn from(s: Option<SenderValues>) -> Self
+        ensures { result ≡ sender_answer s }
+    {
+        match s {
+            None => UgbSender::default(),
+            Some(v) => UgbSender {
+                known: true,
+                kind: v.kind,
+                default_provider: v.default_provider,
+                encryption: v.encryption,
+            },
+        }
     }
 }
 
-fn sender_answer(s: Sender) -> UgbSender
-    ensures { result ≡ sender_answer s }
-{
-    match s {
-        Sender::NotKnown => no_sender(),
-        Sender::Known(v) => UgbSender {
-            known: true,
-            kind: v.kind,
-            default_provider: v.default_provider,
-            encryption: v.encryption,
-        },
+impl From<Privacy> for UgbPrivacy {
+    #[tactic(auto, unfolding(crate::specs::Properties::privacy_answer))]
+    fn from(p: Privacy) -> Self
+        ensures { result ≡ privacy_answer p }
+    {
+        match p {
+            Privacy::Request(level) => UgbPrivacy {
+                packet: false,
+                level,
+            },
+            Privacy::Packet(level) => UgbPrivacy {
+                packet: true,
+                level,
+            },
+        }
     }
 }
 
-fn privacy_answer(p: Privacy) -> UgbPrivacy
-    ensures { result ≡ privacy_answer p }
-{
-    match p {
-        Privacy::Request(level) => UgbPrivacy {
-            packet: false,
-            level,
-        },
-        Privacy::Packet(level) => UgbPrivacy {
-            packet: true,
-            level,
-        },
-    }
-}
-
-pub(crate) fn properties_answer(p: Properties) -> UgbProperties
-    ensures { result ≡ properties_answer p }
-{
-    let handling = p.handling;
-    let sender = p.sender;
-    let provider_type = p.provider_type;
-    let privacy_level = p.privacy_level;
-    let message_size = p.message_size;
-    let allocation_body_size = p.allocation_body_size;
-    let title = p.title;
-    let signature = p.signature;
-    UgbProperties {
-        handling: handling_answer(handling),
-        sender: sender_answer(sender),
-        provider_type: provider_type_answer(provider_type),
-        message_class: p.message_class,
-        acknowledge: p.acknowledge,
-        application_tag: p.application_tag,
-        privacy_level: privacy_answer(privacy_level),
-        hash_algorithm: p.hash_algorithm,
-        encryption_algorithm: p.encryption_algorithm,
-        body_type: p.body_type,
-        message_size,
-        allocation_body_size,
-        title,
-        signature,
+impl From<Properties> for UgbProperties {
+    #[tactic(auto, unfolding(crate::specs::Properties::properties_answer))]
+    fn from(p: Properties) -> Self
+        ensures { result ≡ properties_answer p }
+    {
+        UgbProperties {
+            handling: UgbHandling::from(p.handling),
+            sender: UgbSender::from(p.sender),
+            provider_type: UgbNumber::from(p.provider_type),
+            message_class: p.message_class,
+            acknowledge: p.acknowledge,
+            application_tag: p.application_tag,
+            privacy_level: UgbPrivacy::from(p.privacy_level),
+            hash_algorithm: p.hash_algorithm,
+            encryption_algorithm: p.encryption_algorithm,
+            body_type: p.body_type,
+            message_size: p.message_size,
+            allocation_body_size: p.allocation_body_size,
+            title: p.title,
+            signature: p.signature,
+        }
     }
 }
 
@@ -213,5 +165,5 @@ pub(crate) fn properties_answer(p: Properties) -> UgbProperties
 pub fn ugb_properties_of(section: Section) -> UgbProperties
     ensures { result ≡ properties_answer (section_properties section) }
 {
-    properties_answer(section_properties(section))
+    UgbProperties::from(section_properties(section))
 }

@@ -5,17 +5,17 @@ ghost use Rattle.queues.specs.Write.{write_answer, write_bytes};
 ghost use Rattle.ugbariteyo.specs.Output.{output_answer};
 ghost use Rattle.ugbariteyo.specs.Queue.{image_answer, WrittenAgain};
 
-use crate::output::{UgbOutput, output_answer};
-use crate::zero::{no_part, no_refusal};
+use crate::output::UgbOutput;
+use crate::zero::no_refusal;
 use queues::format::QueueFormat;
-use queues::image::{Image, ImageRead};
+use queues::image::Image;
 use queues::read::read_image;
 use queues::write::write_image;
 use rules::refusal::Refusal;
 use rules::section::Part;
 
 #[repr(C)]
-#[derive(Clone, Copy)]
+#[derive(Clone, Copy, Default)]
 pub struct UgbImageRead {
     pub refusal: Refusal,
     pub format: QueueFormat,
@@ -27,24 +27,20 @@ pub fn ugb_read_image(s: &[u8]) -> UgbImageRead
     ensures value { result ≡ image_answer (read_image s.now) }
     ensures written_again { WrittenAgain s.now result }
 {
+    // each arm fills the answer in place: with one value for both it is moved
     match read_image(s) {
-        ImageRead::Refused(refusal) => {
+        Err(refusal) => {
             return UgbImageRead {
                 refusal,
-                format: QueueFormat::new(0, 0),
-                fixed: no_part(),
-                text: no_part(),
+                ..UgbImageRead::default()
             };
         }
-        ImageRead::Accepted(image) => {
-            let format = image.format;
-            let fixed = image.fixed;
-            let text = image.text;
+        Ok(image) => {
             return UgbImageRead {
                 refusal: no_refusal(),
-                format,
-                fixed,
-                text,
+                format: image.format,
+                fixed: image.fixed,
+                text: image.text,
             };
         }
     }
@@ -54,5 +50,5 @@ pub fn ugb_write_image(format: QueueFormat, fixed: &[u8], text: &[u8], out: &mut
     ensures value { result ≡ output_answer (write_answer format fixed.now text.now out.old) }
     ensures out_after { out.new ≡ write_bytes format fixed.now text.now out.old }
 {
-    output_answer(write_image(format, fixed, text, out))
+    UgbOutput::from(write_image(format, fixed, text, out))
 }

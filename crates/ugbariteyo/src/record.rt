@@ -1,16 +1,15 @@
 // The next record of a day's file, as the listing reads it.
 ghost use Rattle.std.specs.Prelude.{◌≡◌, ◌≤◌};
 ghost use Rattle.records.specs.Record.{next_record};
-ghost use Rattle.ugbariteyo.specs.Record.{found_answer, no_line, nothing_found, record_answer, record_filled, SectionJudged};
+ghost use Rattle.ugbariteyo.specs.Record.{found_answer, nothing_found, record_answer, SectionJudged};
 
-use crate::zero::{no_part, no_refusal};
 use octets::count::{Bytes, Units};
-use records::head::HEAD;
-use records::record::{Answer, Line, Next, Record, next_record};
+use records::head::{HEAD, Next};
+use records::record::{Record, next_record};
 use rules::refusal::Refusal;
 use rules::section::Part;
 
-// What `next` says.
+// What `next` says. (Numbers, as C has them.)
 pub const END: u32 = 0;
 
 pub const STOP: u32 = 1;
@@ -19,7 +18,7 @@ pub const FOUND: u32 = 2;
 
 // `size` counts head and section together; `section` is where the section lies.
 #[repr(C)]
-#[derive(Clone, Copy)]
+#[derive(Clone, Copy, Default)]
 pub struct UgbRecord {
     pub next: u32,
     pub size: Bytes,
@@ -33,68 +32,42 @@ pub struct UgbRecord {
     pub section_length: Bytes,
 }
 
-fn no_line() -> Line
-    ensures { result ≡ no_line }
-{
-    Line {
-        message_class: 0,
-        label_length: Units(0),
-        extension_size: Bytes(0),
-        message_size: Bytes(0),
-        section_length: Bytes(0),
-    }
-}
-
-fn record_filled(
-    next: u32,
-    size: Bytes,
-    security_first: bool,
-    section: Part,
-    refusal: Refusal,
-    line: Line,
-) -> UgbRecord
-    ensures { result ≡ record_filled next size security_first section refusal line }
-{
-    let label_length = line.label_length;
-    let extension_size = line.extension_size;
-    let message_size = line.message_size;
-    let section_length = line.section_length;
-    UgbRecord {
-        next,
-        size,
-        security_first,
-        section,
-        refusal,
-        message_class: line.message_class,
-        label_length,
-        extension_size,
-        message_size,
-        section_length,
-    }
-}
-
+#[tactic(auto, unfolding(crate::specs::Record::nothing_found, crate::specs::Record::record_filled, crate::specs::Record::no_line))]
 fn nothing_found(next: u32) -> UgbRecord
     ensures { result ≡ nothing_found next }
 {
-    record_filled(next, Bytes(0), false, no_part(), no_refusal(), no_line())
+    UgbRecord {
+        next,
+        ..UgbRecord::default()
+    }
 }
 
-fn found_answer(listed: Record) -> UgbRecord
-    requires { 8 ≤ listed.size.0 }
-    ensures { result ≡ found_answer listed }
+// (No `From`: it asks for a size.)
+#[tactic(auto, unfolding(crate::specs::Record::found_answer, crate::specs::Record::found, crate::specs::Record::record_filled, crate::specs::Record::no_line))]
+fn found_answer(found: Record) -> UgbRecord
+    requires { 8 ≤ found.size.0 }
+    ensures { result ≡ found_answer found }
 {
-    let size = listed.size;
-    let first = listed.security_first;
-    let answer = listed.answer;
-    let section = Part {
-        start: Bytes(HEAD),
-        length: Bytes(size.0 - HEAD),
+    let judged = UgbRecord {
+        next: FOUND,
+        size: found.size,
+        security_first: found.security_first,
+        section: Part {
+            start: Bytes(HEAD),
+            length: Bytes(found.size.0 - HEAD),
+        },
+        ..UgbRecord::default()
     };
-    match answer {
-        Answer::Refused(refusal) => {
-            record_filled(FOUND, size, first, section, refusal, no_line())
-        }
-        Answer::Accepted(line) => record_filled(FOUND, size, first, section, no_refusal(), line),
+    match found.answer {
+        Err(refusal) => UgbRecord { refusal, ..judged },
+        Ok(line) => UgbRecord {
+            message_class: line.message_class,
+            label_length: line.label_length,
+            extension_size: line.extension_size,
+            message_size: line.message_size,
+            section_length: line.section_length,
+            ..judged
+        },
     }
 }
 
@@ -105,6 +78,6 @@ pub fn ugb_next_record(s: &[u8]) -> UgbRecord
     match next_record(s) {
         Next::End => nothing_found(END),
         Next::Stop => nothing_found(STOP),
-        Next::Found(listed) => found_answer(listed),
+        Next::Found(found) => found_answer(found),
     }
 }

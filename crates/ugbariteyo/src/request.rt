@@ -1,14 +1,15 @@
 // A send request as C gives it: what may be absent is a mark beside a number.
 ghost use Rattle.std.specs.Prelude.{◌≡◌};
-ghost use Rattle.ugbariteyo.specs.Request.{body_of, correlation_of, number_of, request_of};
+ghost use Rattle.std.specs.Bool.{then_some};
+ghost use Rattle.ugbariteyo.specs.Request.{number_of, request_of};
 
 use octets::count::Bytes;
-use requests::request::{Body, Correlation, Number, Request};
+use requests::request::Request;
 use rules::section::CorrelationId;
 
 // A number that may be absent, so that absent and 0 stay apart.
 #[repr(C)]
-#[derive(Clone, Copy)]
+#[derive(Clone, Copy, Default)]
 pub struct UgbNumber {
     pub given: bool,
     pub number: u32,
@@ -44,59 +45,54 @@ pub struct UgbRequest {
     pub encryption: bool,
 }
 
-fn number_of(n: UgbNumber) -> Number
-    ensures { result ≡ number_of n }
-{
-    if n.given {
-        return Number::Given(n.number);
+impl From<UgbNumber> for Option<u32> {
+    fn from(n: UgbNumber) -> Self
+        ensures { result ≡ number_of n }
+    {
+        n.given.then_some(n.number)
     }
-    Number::Absent
 }
 
-fn correlation_of(given: bool) -> Correlation
-    ensures { result ≡ correlation_of given }
+// Cleared where it is not given, and no `then_some`, whose branch costs `ugb_defaulted_positional` 6 % of its instructions.
+fn correlation_of(given: bool, id: CorrelationId) -> Option<CorrelationId>
+    ensures { result ≡ then_some given id }
 {
-    if given {
-        return Correlation::Given;
+    let mut found = Some(id);
+    if !given {
+        found = None;
     }
-    Correlation::Absent
+    found
 }
 
-fn body_of(given: bool, allocation: Bytes) -> Body
-    ensures { result ≡ body_of given allocation }
-{
-    if given {
-        return Body::Given(allocation);
-    }
-    Body::Absent
-}
-
-pub fn request_of(q: UgbRequest) -> Request
-    ensures { result ≡ request_of q }
-{
-    Request {
-        priority: number_of(q.priority),
-        trace: number_of(q.trace),
-        delivery: number_of(q.delivery),
-        auditing: number_of(q.auditing),
-        message_class: number_of(q.message_class),
-        acknowledge: number_of(q.acknowledge),
-        application_tag: number_of(q.application_tag),
-        privacy_level: number_of(q.privacy_level),
-        hash_algorithm: number_of(q.hash_algorithm),
-        encryption_algorithm: number_of(q.encryption_algorithm),
-        body_type: number_of(q.body_type),
-        sender_kind: number_of(q.sender_kind),
-        provider_type: number_of(q.provider_type),
-        split_number: number_of(q.split_number),
-        provider_name_length: q.provider_name_length,
-        time_to_queue: q.time_to_queue,
-        time_to_live: q.time_to_live,
-        correlation: correlation_of(q.correlation_given),
-        body: body_of(q.body_given, q.allocation_body_size),
-        transaction: q.transaction,
-        direct_queue: q.direct_queue,
-        default_provider: q.default_provider,
-        encryption: q.encryption,
+impl From<UgbRequest> for Request {
+    #[tactic(auto, unfolding(crate::specs::Request::request_of))]
+    fn from(q: UgbRequest) -> Self
+        ensures { result ≡ request_of q }
+    {
+        Request {
+            priority: Option::from(q.priority),
+            trace: Option::from(q.trace),
+            delivery: Option::from(q.delivery),
+            auditing: Option::from(q.auditing),
+            message_class: Option::from(q.message_class),
+            acknowledge: Option::from(q.acknowledge),
+            application_tag: Option::from(q.application_tag),
+            privacy_level: Option::from(q.privacy_level),
+            hash_algorithm: Option::from(q.hash_algorithm),
+            encryption_algorithm: Option::from(q.encryption_algorithm),
+            body_type: Option::from(q.body_type),
+            sender_kind: Option::from(q.sender_kind),
+            provider_type: Option::from(q.provider_type),
+            split_number: Option::from(q.split_number),
+            provider_name_length: q.provider_name_length,
+            time_to_queue: q.time_to_queue,
+            time_to_live: q.time_to_live,
+            correlation_id: correlation_of(q.correlation_given, q.correlation_id),
+            body: q.body_given.then_some(q.allocation_body_size),
+            transaction: q.transaction,
+            direct_queue: q.direct_queue,
+            default_provider: q.default_provider,
+            encryption: q.encryption,
+        }
     }
 }

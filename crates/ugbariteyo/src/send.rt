@@ -5,7 +5,6 @@ ghost use Rattle.ugbariteyo.specs.Send.{sent_answer};
 use crate::zero::no_refusal;
 use octets::count::Bytes;
 use rules::refusal::Refusal;
-use rules::section::Output;
 
 // What reading needs beside the bytes: whether a SecurityHeader stands first in them.
 #[repr(C)]
@@ -16,16 +15,18 @@ pub struct UgbSent {
     pub security_first: bool,
 }
 
-pub fn sent_answer(output: Output, security_first: bool) -> UgbSent
+// (No `From`: it takes two values.)
+#[tactic(auto, unfolding(crate::specs::Send::sent_answer))]
+pub fn sent_answer(output: Result<Bytes, Refusal>, security_first: bool) -> UgbSent
     ensures { result ≡ sent_answer security_first output }
 {
     match output {
-        Output::Refused(refusal) => UgbSent {
+        Err(refusal) => UgbSent {
             refusal,
             length: Bytes(0),
             security_first: false,
         },
-        Output::Written(length) => UgbSent {
+        Ok(length) => UgbSent {
             refusal: no_refusal(),
             length,
             security_first,

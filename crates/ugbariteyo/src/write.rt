@@ -1,12 +1,12 @@
-// The section writer.
+// The section writer, with C's parameters: a struct that holds a slice does not cross.
 ghost use Rattle.std.specs.Prelude.{◌≡◌};
-ghost use Rattle.writing.specs.Given.{lent};
+ghost use Rattle.writing.specs.Given.{lent_given};
 ghost use Rattle.writing.specs.Writing.{write_answer, write_bytes};
 ghost use Rattle.ugbariteyo.specs.Output.{output_answer};
 
-use crate::output::{UgbOutput, output_answer};
+use crate::output::UgbOutput;
 use writing::section::write_section;
-use writing::values::SectionValues;
+use writing::values::{SectionGiven, SectionValues};
 
 pub fn ugb_write_section_positional(
     values: SectionValues,
@@ -20,12 +20,12 @@ pub fn ugb_write_section_positional(
     body: &[u8],
     out: &mut [u8],
 ) -> UgbOutput
-    ensures value { result ≡ output_answer (write_answer (lent values sender_id encryption_key signature
+    ensures value { result ≡ output_answer (write_answer (lent_given values sender_id encryption_key signature
         sender_cert provider_info label extension body) out.old) }
-    ensures out_after { out.new ≡ write_bytes (lent values sender_id encryption_key signature
+    ensures out_after { out.new ≡ write_bytes (lent_given values sender_id encryption_key signature
         sender_cert provider_info label extension body) out.old }
 {
-    output_answer(write_section(
+    let given = SectionGiven {
         values,
         sender_id,
         encryption_key,
@@ -35,6 +35,6 @@ pub fn ugb_write_section_positional(
         label,
         extension,
         body,
-        out,
-    ))
+    };
+    UgbOutput::from(write_section(&given, out))
 }

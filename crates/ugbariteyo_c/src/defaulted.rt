@@ -1,6 +1,6 @@
-// The defaulted properties of a send request.
+// The defaulted properties of a send request: a struct that holds a slice does not cross.
 ghost use Rattle.std.specs.Prelude.{◌≡◌};
-ghost use Rattle.requests.specs.Request.{send_request};
+ghost use Rattle.requests.specs.Request.{lent_request};
 ghost use Rattle.ugbariteyo.specs.Defaulted.{defaulted_answer};
 ghost use Rattle.ugbariteyo.specs.Request.{request_of};
 
@@ -19,8 +19,8 @@ pub extern "C" fn ugb_defaulted_positional(
     extension: &[u8],
     body: &[u8],
 ) -> UgbDefaulted
-    ensures { result ≡ defaulted_answer (send_request (request_of request) title sender_id encryption_key
-        signature sender_cert provider_name extension body) request.correlation_id }
+    ensures { result ≡ defaulted_answer (lent_request (request_of request) title sender_id encryption_key
+        signature sender_cert provider_name extension body) }
 {
     ugbariteyo::defaulted::ugb_defaulted_positional(
         request,

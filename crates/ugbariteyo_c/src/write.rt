@@ -1,6 +1,6 @@
-// The section writer.
+// The section writer: a struct that holds a slice does not cross.
 ghost use Rattle.std.specs.Prelude.{◌≡◌};
-ghost use Rattle.writing.specs.Given.{lent};
+ghost use Rattle.writing.specs.Given.{lent_given};
 ghost use Rattle.writing.specs.Writing.{write_answer, write_bytes};
 ghost use Rattle.ugbariteyo.specs.Output.{output_answer};
 
@@ -20,9 +20,9 @@ pub extern "C" fn ugb_write_section_positional(
     body: &[u8],
     out: &mut [u8],
 ) -> UgbOutput
-    ensures value { result ≡ output_answer (write_answer (lent values sender_id encryption_key signature
+    ensures value { result ≡ output_answer (write_answer (lent_given values sender_id encryption_key signature
         sender_cert provider_info label extension body) out.old) }
-    ensures out_after { out.new ≡ write_bytes (lent values sender_id encryption_key signature
+    ensures out_after { out.new ≡ write_bytes (lent_given values sender_id encryption_key signature
         sender_cert provider_info label extension body) out.old }
 {
     ugbariteyo::write::ugb_write_section_positional(

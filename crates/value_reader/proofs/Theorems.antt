@@ -1,5 +1,7 @@
 -- No refusal has the number 0; type and bits are the value.
 use Prim.Native.Nat.{ℕ, ◌%◌, ◌^◌}
+use Rattle.rules.specs.declared.refusal.Refusal.{Refusal}
+use Rattle.std.specs.Prelude.{Err, Ok, Result}
 use mathlib.Core.Path.{◌≡◌, refl, sym, ap}
 use mathlib.Core.Bool.{Bool, true, false}
 use mathlib.Core.List.{List}
@@ -16,8 +18,6 @@ use Rattle.values.specs.Read.{read_value, section_value, value_of, value_of_bits
 use Rattle.values.specs.Theorems.{Fits, OneWay}
 use Rattle.values.specs.Value.{body_types, size_of, value_from}
 use Rattle.values.specs.Write.{value_bytes, write_answer}
-use Rattle.values.specs.declared.read.ValueRead.{ValueRead}
-use Rattle.values.specs.declared.read.ValueRead.TheVariants.{Accepted, Refused}
 use Rattle.values.specs.declared.value.BodyValue.{BodyValue}
 use Rattle.values.proofs.Laws.Body.{some_bits}
 use Rattle.values.proofs.Laws.Value.{bits_fit, made, own, type-listed}
@@ -27,9 +27,9 @@ use Rattle.value_reader.specs.Theorems.{ForC, GivenAs, ValueTold}
 use Rattle.value_reader.specs.declared.UgbBodyValue.{UgbBodyValue}
 
 -- a refusal, if any, has a number
-abbrev ValueNumbered : ValueRead → Type 0
-ValueNumbered (Accepted v) = Unit {0}
-ValueNumbered (Refused r) = ¬ (r.number ≡ 0)
+abbrev ValueNumbered : Result BodyValue Refusal → Type 0
+ValueNumbered (Ok v) = Unit {0}
+ValueNumbered (Err r) = ¬ (r.number ≡ 0)
 
 where-numbered : (steps type : ℕ) (body : List ℕ) → ValueNumbered (value_where steps type body)
 unfolding value_where
@@ -48,16 +48,16 @@ read-numbered first s = go (eqb (judge first s).number 0) refl
     go false e = rw e (eqb-false (judge first s).number 0 e)
 
 -- a value's own type and bits give it again
-given-again : (v : BodyValue) → Fits v → OneWay v → given (shown v) ≡ Accepted v
+given-again : (v : BodyValue) → Fits v → OneWay v → given (shown v) ≡ Ok v
 unfolding given value_of_bits
 given-again v fits one =
-    rw (type-listed v, mod-eq_of_lt (bits_fit v fits)) (ap Accepted (own v fits one))
+    rw (type-listed v, mod-eq_of_lt (bits_fit v fits)) (ap Ok (own v fits one))
 
-told : (x : ValueRead) → ValueNumbered x → ((v : BodyValue) → x ≡ Accepted v → Fits v × OneWay v) → ValueTold x
+told : (x : Result BodyValue Refusal) → ValueNumbered x → ((v : BodyValue) → x ≡ Ok v → Fits v × OneWay v) → ValueTold x
 unfolding value_answer
-told (Accepted v) n held =
+told (Ok v) n held =
     let h = held v refl in record { zero-accepted = λ e. sym (given-again v h.0 h.1); accepted-zero = λ w e. refl }
-told (Refused r) n held =
+told (Err r) n held =
     record { zero-accepted = λ e. absurd (n e); accepted-zero = λ w e. let z : ◌≡◌ {A = ℕ} 0 1 = cc in absurd (omega arith) }
 
 given-as : (x : UgbBodyValue) → listed body_types x.body_type ≡ true → GivenAs x
@@ -74,10 +74,10 @@ given-numbered x = go (listed body_types x.body_type) refl
     go true e = rw e tt
     go false e = rw e (λ z. omega arith)
 
-answer-numbered : (x : ValueRead) (out : List ℕ) → ValueNumbered x → Numbered (given_answer x out)
+answer-numbered : (x : Result BodyValue Refusal) (out : List ℕ) → ValueNumbered x → Numbered (given_answer x out)
 unfolding given_answer write_answer
-answer-numbered (Accepted v) out n = writer-numbered (refusal 0 0) (length (value_bytes v)) out
-answer-numbered (Refused r) out n = n
+answer-numbered (Ok v) out n = writer-numbered (refusal 0 0) (length (value_bytes v)) out
+answer-numbered (Err r) out n = n
 
 pub for-c : ForC
 unfolding value_of

@@ -6,15 +6,16 @@ ghost use Rattle.ugbariteyo.specs.Output.{output_answer};
 ghost use Rattle.values.specs.Read.{read_value, value_of};
 ghost use Rattle.value_reader.specs.Answer.{given, given_answer, given_bytes, no_value, value_answer};
 
+use octets::count::Bytes;
 use rules::refusal::Refusal;
-use rules::section::Output;
-use ugbariteyo::output::{UgbOutput, output_answer};
+use ugbariteyo::output::UgbOutput;
 use ugbariteyo::zero::no_refusal;
-use values::read::{ValueRead, read_value, value_of, value_of_bits};
+use values::read::{read_value, value_of, value_of_bits};
+use values::value::BodyValue;
 use values::write::write_value;
 
 #[repr(C)]
-#[derive(Clone, Copy)]
+#[derive(Clone, Copy, Default)]
 pub struct UgbBodyValue {
     pub body_type: u32,
     pub bits: u64,
@@ -27,30 +28,31 @@ pub struct UgbValueRead {
     pub value: UgbBodyValue,
 }
 
+// (A function, since its contract and an edit name it.)
 fn no_value() -> UgbBodyValue
     ensures { result ≡ no_value }
 {
-    UgbBodyValue {
-        body_type: 0,
-        bits: 0,
-    }
+    UgbBodyValue::default()
 }
 
-fn value_answer(read: ValueRead) -> UgbValueRead
-    ensures { result ≡ value_answer read }
-{
-    match read {
-        ValueRead::Refused(refusal) => UgbValueRead {
-            refusal,
-            value: no_value(),
-        },
-        ValueRead::Accepted(value) => UgbValueRead {
-            refusal: no_refusal(),
-            value: UgbBodyValue {
-                body_type: value.body_type(),
-                bits: value.bits(),
+impl From<Result<BodyValue, Refusal>> for UgbValueRead {
+    #[tactic(auto, unfolding(crate::specs::Answer::value_answer))]
+    fn from(read: Result<BodyValue, Refusal>) -> Self
+        ensures { result ≡ value_answer read }
+    {
+        match read {
+            Err(refusal) => UgbValueRead {
+                refusal,
+                value: no_value(),
             },
-        },
+            Ok(value) => UgbValueRead {
+                refusal: no_refusal(),
+                value: UgbBodyValue {
+                    body_type: value.body_type(),
+                    bits: value.bits(),
+                },
+            },
+        }
     }
 }
 
@@ -58,25 +60,24 @@ fn value_answer(read: ValueRead) -> UgbValueRead
 pub extern "C" fn ugb_read_value(s: &[u8], security_first: bool) -> UgbValueRead
     ensures { result ≡ value_answer (read_value security_first s.now) }
 {
-    value_answer(read_value(s, security_first))
+    UgbValueRead::from(read_value(s, security_first))
 }
 
 #[unsafe(no_mangle)]
 pub extern "C" fn ugb_value_of(body_type: u32, body: &[u8]) -> UgbValueRead
     ensures { result ≡ value_answer (value_of body_type body.now) }
 {
-    value_answer(value_of(body_type, body))
+    UgbValueRead::from(value_of(body_type, body))
 }
 
 // A struct whose type is none of the four is no value: 60.
-fn write_given(value: UgbBodyValue, out: &mut [u8]) -> Output
+#[tactic(auto, unfolding(crate::specs::Answer::given, crate::specs::Answer::given_answer, crate::specs::Answer::given_bytes))]
+fn write_given(value: UgbBodyValue, out: &mut [u8]) -> Result<Bytes, Refusal>
     ensures value { result ≡ given_answer (given value) out.old }
     ensures out_after { out.new ≡ given_bytes (given value) out.old }
 {
-    match value_of_bits(value.body_type, value.bits) {
-        ValueRead::Refused(refusal) => Output::Refused(refusal),
-        ValueRead::Accepted(v) => write_value(v, out),
-    }
+    let own = value_of_bits(value.body_type, value.bits)?;
+    write_value(own, out)
 }
 
 #[unsafe(no_mangle)]
@@ -84,5 +85,5 @@ pub extern "C" fn ugb_write_value(value: UgbBodyValue, out: &mut [u8]) -> UgbOut
     ensures value { result ≡ output_answer (given_answer (given value) out.old) }
     ensures out_after { out.new ≡ given_bytes (given value) out.old }
 {
-    output_answer(write_given(value, out))
+    UgbOutput::from(write_given(value, out))
 }

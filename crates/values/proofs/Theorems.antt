@@ -1,5 +1,6 @@
 -- What is read writes back, and what is written reads back.
 use Prim.Native.Nat.{ℕ, ◌/◌, ◌%◌, ◌≤◌}
+use Rattle.std.specs.Prelude.{Err, Ok, Result}
 use mathlib.Core.Path.{◌≡◌, refl, sym, ap, subst, ◌∙◌}
 use mathlib.Core.Bool.{Bool, true, false, not, cond}
 use mathlib.Core.List.{List}
@@ -21,9 +22,6 @@ use Rattle.rules.specs.Security.{EB}
 use Rattle.rules.specs.Summary.{no_security, part_of}
 use Rattle.rules.specs.declared.properties.PropertiesFields.{PropertiesFields}
 use Rattle.rules.specs.declared.refusal.Refusal.{Refusal}
-use Rattle.rules.specs.declared.section.Output.TheVariants.{Written, Refused}
-use Rattle.rules.specs.declared.section.Summarized.{Summarized}
-use Rattle.rules.specs.declared.section.Summarized.TheVariants.{Accepted as Summarized-as-Accepted, Refused as Summarized-as-Refused}
 use Rattle.rules.specs.declared.section.Summary.{Summary}
 use Rattle.rules.specs.declared.security.SecurityHeader.{SecurityHeader}
 use Rattle.rules.proofs.Laws.Accepted.{HeaderPassed, passed, section-passed}
@@ -37,25 +35,24 @@ use Rattle.values.specs.Read.{read_value, refused, section_value, value_in, valu
 use Rattle.values.specs.Theorems.{Fits, MadeOf, OneWay, ReadFrom, ReadsBack, Values, WrittenTo}
 use Rattle.values.specs.Value.{bits_of, body_type, body_types, size_of, value_from}
 use Rattle.values.specs.Write.{value_bytes, write_answer, write_bytes}
-use Rattle.values.specs.declared.read.ValueRead.TheVariants.{Accepted, Refused as Value-as-Refused}
 use Rattle.values.specs.declared.value.BodyValue.{BodyValue}
 use Rattle.values.proofs.Laws.Body.{body-in, value-at}
 use Rattle.values.proofs.Laws.Value.{Made, bits_fit, made, own, type-listed}
 use Rattle.values.proofs.Laws.Write.{length-value}
 
 -- a refusal is no value
-wrong : {A : Type 0} (r : Refusal) (v : BodyValue) → Value-as-Refused r ≡ Accepted v → A
+wrong : {A : Type 0} (r : Refusal) (v : BodyValue) → Err r ≡ Ok v → A
 wrong r v e = let z : ◌≡◌ {A = ℕ} 0 1 = cc in absurd (omega arith)
 
 -- ---- made of a body
 
 -- steps that pass, and the value behind them
-where-passed : (steps type : ℕ) (body : List ℕ) (v : BodyValue) → value_where steps type body ≡ Accepted v
+where-passed : (steps type : ℕ) (body : List ℕ) (v : BodyValue) → value_where steps type body ≡ Ok v
     → (steps ≡ 0) × (v ≡ value_from type (le (size_of type) body 0))
 unfolding value_where
 where-passed steps type body v e = go (eqb steps 0) refl e
   where
-    go : (b : Bool) → eqb steps 0 ≡ b → cond b (Accepted (value_from type (le (size_of type) body 0))) (refused steps) ≡ Accepted v
+    go : (b : Bool) → eqb steps 0 ≡ b → cond b (Ok (value_from type (le (size_of type) body 0))) (refused steps) ≡ Ok v
         → (steps ≡ 0) × (v ≡ value_from type (le (size_of type) body 0))
     go true f e = (eqb-true steps 0 f, cc)
     go false f e = wrong (refusal steps 0) v e
@@ -80,11 +77,11 @@ steps-passed encrypted type size e =
 -- the writer, where there is room
 module _ (v : BodyValue) (out : List ℕ) where
   room-written : length (value_bytes v) ≤ length out
-      → (write_answer v out ≡ Written (bytes (length (value_bytes v)))) × (write_bytes v out ≡ over (value_bytes v) out)
+      → (write_answer v out ≡ Ok (bytes (length (value_bytes v)))) × (write_bytes v out ≡ over (value_bytes v) out)
   unfolding write_answer write_bytes
   room-written h = let end = ends-written (refusal 0 0) (value_bytes v) out refl h in (sym end.0, sym end.1)
 
-made_of : (type : ℕ) (body : List ℕ) (v : BodyValue) → Octets body → value_of type body ≡ Accepted v
+made_of : (type : ℕ) (body : List ℕ) (v : BodyValue) → Octets body → value_of type body ≡ Ok v
     → (body_type v ≡ type) × MadeOf body v
 unfolding value_of value_bytes
 made_of type body v octets e =
@@ -114,20 +111,20 @@ made_of type body v octets e =
 clear_zero : (flags : ℕ) → eqb (flags / 32 % 2) 1 ≡ false → flags / 32 % 2 ≡ 0
 clear_zero flags e = omega (arith, eqb-false (flags / 32 % 2) 1 e)
 
-read-from : (first : Bool) (s : List ℕ) (v : BodyValue) → Octets s → read_value first s ≡ Accepted v → ReadFrom first s v
+read-from : (first : Bool) (s : List ℕ) (v : BodyValue) → Octets s → read_value first s ≡ Ok v → ReadFrom first s v
 unfolding read_value section_value value_of
 read-from first s v octets e = go (summarize first s) refl e
   where
-    go : (x : Summarized) → summarize first s ≡ x → section_value s x ≡ Accepted v → ReadFrom first s v
-    go (Summarized-as-Refused r) f e = wrong r v e
-    go (Summarized-as-Accepted m) f e =
+    go : (x : Result Summary Refusal) → summarize first s ≡ x → section_value s x ≡ Ok v → ReadFrom first s v
+    go (Err r) f e = wrong r v e
+    go (Ok m) f e =
         let type = m.properties.body_type in
         let body : List ℕ = part_of s m.parts.body in
         let eb = eqb (EB m.security.fields) 1 in
         let found = where-passed (value_steps eb type m.properties.message_size.0) type body v e in
         let steps = steps-passed eb type m.properties.message_size.0 found.0 in
         let lies = body-in first s m f in
-        let value : value_of type body ≡ Accepted v = rw (lies.size, ← steps.clear) e in
+        let value : value_of type body ≡ Ok v = rw (lies.size, ← steps.clear) e in
         let done = made_of type body v (lies.octets octets) value in
         record {
           summary = m;
@@ -155,7 +152,7 @@ reads-back v fits =
       same = own v fits;
     }
 
-written-to : (v : BodyValue) (out : List ℕ) (n : Bytes) → Fits v → write_answer v out ≡ Written n → WrittenTo v out n
+written-to : (v : BodyValue) (out : List ℕ) (n : Bytes) → Fits v → write_answer v out ≡ Ok n → WrittenTo v out n
 unfolding write_answer over
 written-to v out n fits e =
     let h = has-written (refusal 0 0) (length (value_bytes v)) out n e in
@@ -169,13 +166,13 @@ written-to v out n fits e =
       back = subst (ReadsBack v) (sym front) (reads-back v fits);
     }
 
-write-refused : (v : BodyValue) (out : List ℕ) (r : Refusal) → write_answer v out ≡ Refused r
+write-refused : (v : BodyValue) (out : List ℕ) (r : Refusal) → write_answer v out ≡ Err r
     → (r ≡ refusal 13 0) × (write_bytes v out ≡ out)
 unfolding write_answer write_bytes writer_answer writer_output
 write-refused v out r e = go (ltb (length out) (length (value_bytes v))) refl e
   where
     go : (b : Bool) → ltb (length out) (length (value_bytes v)) ≡ b
-        → cond b (Refused (refusal 13 0)) (Written (bytes (length (value_bytes v)))) ≡ Refused r → (r ≡ refusal 13 0) × (write_bytes v out ≡ out)
+        → cond b (Err (refusal 13 0)) (Ok (bytes (length (value_bytes v)))) ≡ Err r → (r ≡ refusal 13 0) × (write_bytes v out ≡ out)
     go true f e = (cc, rw f)
     go false f e = let z : ◌≡◌ {A = ℕ} 0 1 = cc in absurd (omega arith)
 
@@ -198,7 +195,7 @@ eb-clear g s m header clear fields = go g.values.security_first refl header
 
 carried : (g : Given) (v : BodyValue) (out : List ℕ) (n : Bytes) → WellFormed g → Fits v → OneWay v
     → g.values.body_type ≡ body_type v → g.body ≡ value_bytes v → (g.values.security_first ≡ true → EB (security_given g) ≡ 0)
-    → section-writer.write_answer g out ≡ Written n → read_value g.values.security_first (section-writer.write_bytes g out) ≡ Accepted v
+    → section-writer.write_answer g out ≡ Ok n → read_value g.values.security_first (section-writer.write_bytes g out) ≡ Ok v
 unfolding read properties_from value_of
 carried g v out n well fits one type body clear e =
     let s = section-writer.write_bytes g out in
@@ -215,7 +212,7 @@ carried g v out n well fits one type body clear e =
     ∙ ap (λ (t : ℕ). value_of t (part_of s m.parts.body)) fields
     ∙ ap (value_of (body_type v)) (b.body ∙ body)
     ∙ own-bytes.read
-    ∙ ap Accepted (own-bytes.same one)
+    ∙ ap Ok (own-bytes.same one)
 
 pub values : Values
 values = record { made = made_of; read = read-from; written = written-to; refused = write-refused; carried = carried }

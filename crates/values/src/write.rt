@@ -3,27 +3,26 @@ ghost use Rattle.std.specs.Prelude.{◌≡◌, ◌≤◌, length};
 ghost use Rattle.octets.specs.Over.{over};
 ghost use Rattle.values.specs.Write.{value_bytes, write_answer, write_bytes};
 
-use crate::value::BodyValue;
+use crate::value::{BodyValue, Kind};
+use octets::count::Bytes;
 use octets::number::{u32_bytes, u64_bytes};
 use octets::over::copy;
-use rules::section::{Output, output_short};
+use rules::refusal::Refusal;
+use rules::section::output_short;
 
 fn put_value(value: BodyValue, out: &mut [u8])
     requires { length (value_bytes value) ≤ length out.old }
     ensures { out.new ≡ over (value_bytes value) out.old }
 {
     let bits = value.bits();
-    if value.body_type() == BodyValue::VT_R8 {
-        let bytes = u64_bytes(bits);
-        copy(&bytes, out);
-        return;
+    match value.kind() {
+        Kind::R8 => copy(&u64_bytes(bits), out),
+        _ => copy(&u32_bytes((bits % 4294967296) as u32), out),
     }
-    let bytes = u32_bytes((bits % 4294967296) as u32);
-    copy(&bytes, out);
 }
 
 // Writes the 4 or 8 bytes of the body, or leaves the output as it is: 13.
-pub fn write_value(value: BodyValue, out: &mut [u8]) -> Output
+pub fn write_value(value: BodyValue, out: &mut [u8]) -> Result<Bytes, Refusal>
     ensures value { result ≡ write_answer value out.old }
     ensures out_after { out.new ≡ write_bytes value out.old }
 {
@@ -32,5 +31,5 @@ pub fn write_value(value: BodyValue, out: &mut [u8]) -> Output
         return output_short();
     }
     put_value(value, out);
-    Output::Written(size)
+    Ok(size)
 }

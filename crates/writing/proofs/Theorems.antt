@@ -1,5 +1,6 @@
 -- The theorems of the section writer.
 use Prim.Native.Nat.{ℕ, ◌≤◌}
+use Rattle.std.specs.Prelude.{Ok}
 use mathlib.Core.Path.{◌≡◌, refl, sym, ap, subst, ◌∙◌}
 use mathlib.Core.Bool.{Bool}
 use mathlib.Core.List.{List}
@@ -13,8 +14,6 @@ use Rattle.rules.specs.Output.{writer_answer}
 use Rattle.rules.specs.Reading.{read, summarize}
 use Rattle.rules.specs.Refusal.{bytes}
 use Rattle.rules.specs.Support.{copy_answer, copy_output, support_answer, support_bytes}
-use Rattle.rules.specs.declared.section.Output.TheVariants.{Written}
-use Rattle.rules.specs.declared.section.Reading.TheVariants.{Accepted}
 use Rattle.rules.specs.declared.section.Section.{Section}
 use Rattle.writing.specs.Given.{Given}
 use Rattle.writing.specs.Theorems.{WellFormed, Writing, WrittenAgain, WrittenOutput, given_of, hidden}
@@ -58,7 +57,7 @@ hidden-way =
       properties_shown = properties-hidden;
     }
 
-written : (g : Given) (out : List ℕ) (n : Bytes) → WellFormed g → write_answer g out ≡ Written n → WrittenOutput g out n
+written : (g : Given) (out : List ℕ) (n : Bytes) → WellFormed g → write_answer g out ≡ Ok n → WrittenOutput g out n
 unfolding over
 written g out n w e =
     let a = written-placed g out n e in
@@ -72,14 +71,14 @@ written g out n w e =
       followed = λ rest. rw (placed_first g out a.passed a.room size) (section-back g rest w a.passed);
     })
 
-written-again : (first : Bool) (s out : List ℕ) (r : Section) → Octets s → read first s ≡ Accepted r
+written-again : (first : Bool) (s out : List ℕ) (r : Section) → Octets s → read first s ≡ Ok r
     → r.summary.parts.section_length.0 ≤ length out → WrittenAgain s out r
 written-again first s out r b e room =
     let g = given_of r s in
     let a = accepted-again whole-way first s r b e in
     let room = subst (λ (n : ℕ). n ≤ length out) (sym a.long) room in
     record {
-      answer = placed-answer g out a.placed room ∙ ap (λ (n : ℕ). Written (bytes n)) a.long;
+      answer = placed-answer g out a.placed room ∙ ap (λ (n : ℕ). Ok (bytes n)) a.long;
       section =
           ap (λ (n : ℕ). take n (write_bytes g out)) (sym a.long) ∙ placed_first g out a.placed room a.size ∙ a.bytes;
       behind =

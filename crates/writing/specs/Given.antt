@@ -1,11 +1,12 @@
 -- 01, "Writing": "the full reading's values and parts, with the sizes given by the parts"
 use Rattle.std.specs.Prelude.{ℕ, ◌/◌, ◌%◌, List, length}
-use Rattle.octets.specs.Lent.{Held, Lent}
+use Rattle.octets.specs.Lent.{Lent}
 use Rattle.octets.specs.Number.{to_le}
 use Rattle.rules.specs.Properties.{FixedProperties}
 use Rattle.rules.specs.Refusal.{bytes}
 use Rattle.rules.specs.declared.properties.PropertiesFields.{PropertiesFields}
 use Rattle.rules.specs.declared.security.SecurityFields.{SecurityFields}
+use Rattle.writing.specs.declared.values.SectionGiven.{SectionGiven}
 use Rattle.writing.specs.declared.values.SectionValues.{SectionValues}
 
 pub record Given : Type 0 where
@@ -19,30 +20,35 @@ pub record Given : Type 0 where
   pub extension : List ℕ
   pub body : List ℕ
 
-abbrev pub given : SectionValues → List ℕ → List ℕ → List ℕ → List ℕ → List ℕ → List ℕ → List ℕ → List ℕ → Given
-given values sender_id encryption_key signature sender_cert provider_info label extension body =
+-- what is given
+abbrev pub lent : SectionGiven → Given
+lent g =
     record {
-      values = values;
-      sender_id = sender_id;
-      encryption_key = encryption_key;
-      signature = signature;
-      sender_cert = sender_cert;
-      provider_info = provider_info;
-      label = label;
-      extension = extension;
-      body = body;
+      values = g.values;
+      sender_id = g.sender_id.now;
+      encryption_key = g.encryption_key.now;
+      signature = g.signature.now;
+      sender_cert = g.sender_cert.now;
+      provider_info = g.provider_info.now;
+      label = g.label.now;
+      extension = g.extension.now;
+      body = g.body.now;
     }
 
--- what a call is given, out of its parameters: as a `requires` has them, and as an `ensures` has them
-abbrev pub held : SectionValues → Held → Held → Held → Held → Held → Held → Held → Held → Given
-held values sender_id encryption_key signature sender_cert provider_info label extension body =
-    given values sender_id.now encryption_key.now signature.now sender_cert.now provider_info.now label.now
-    extension.now body.now
-
-abbrev pub lent : SectionValues → Lent → Lent → Lent → Lent → Lent → Lent → Lent → Lent → Given
-lent values sender_id encryption_key signature sender_cert provider_info label extension body =
-    given values sender_id.entry.now encryption_key.entry.now signature.entry.now sender_cert.entry.now
-    provider_info.entry.now label.entry.now extension.entry.now body.entry.now
+-- and that of a call from C, out of the call's parameters
+abbrev pub lent_given : SectionValues → Lent → Lent → Lent → Lent → Lent → Lent → Lent → Lent → Given
+lent_given values sender_id encryption_key signature sender_cert provider_info label extension body =
+    record {
+      values = values;
+      sender_id = sender_id.entry.now;
+      encryption_key = encryption_key.entry.now;
+      signature = signature.entry.now;
+      sender_cert = sender_cert.entry.now;
+      provider_info = provider_info.entry.now;
+      label = label.entry.now;
+      extension = extension.entry.now;
+      body = body.entry.now;
+    }
 
 -- the fields of a SecurityHeader with these Flags and parts; "X bits .. are written zero"
 unfoldable pub security_from : ℕ → List ℕ → List ℕ → List ℕ → List ℕ → List ℕ → SecurityFields

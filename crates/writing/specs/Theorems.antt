@@ -1,5 +1,5 @@
 -- What the section writer and the reader say of each other.
-use Rattle.std.specs.Prelude.{ℕ, ◌-◌, ◌<◌, ◌≤◌, ◌≡◌, Bool, true, List, ◌++◌, length, take, drop, replicate}
+use Rattle.std.specs.Prelude.{Ok, ℕ, ◌-◌, ◌<◌, ◌≤◌, ◌≡◌, Bool, true, List, ◌++◌, length, take, drop, replicate}
 use Rattle.octets.specs.Octets.{Octets}
 use Rattle.octets.specs.declared.count.Bytes.{Bytes}
 use Rattle.rules.specs.Judged.{carried, judged_identity, masked}
@@ -7,8 +7,6 @@ use Rattle.rules.specs.Reading.{read}
 use Rattle.rules.specs.Refusal.{bytes}
 use Rattle.rules.specs.Summary.{part_of}
 use Rattle.rules.specs.Support.{support_answer, support_bytes}
-use Rattle.rules.specs.declared.section.Output.TheVariants.{Written}
-use Rattle.rules.specs.declared.section.Reading.TheVariants.{Accepted}
 use Rattle.rules.specs.declared.section.Section.{Section}
 use Rattle.writing.specs.Given.{Given, properties_given, security_given}
 use Rattle.writing.specs.Writing.{base_write_refusal, layout_length, write_answer, write_bytes, write_refusal}
@@ -25,7 +23,7 @@ pub record WellFormed (g : Given) : Type 0 where
 
 -- what is written reads back as the values and parts given
 pub record ReadsBack (g : Given) (s : List ℕ) (r : Section) : Type 0 where
-  pub reads : read g.values.security_first s ≡ Accepted r
+  pub reads : read g.values.security_first s ≡ Ok r
   pub length : r.summary.parts.section_length ≡ bytes (layout_length g)
   pub security : g.values.security_first ≡ true → r.summary.security.fields ≡ security_given g
   pub properties : r.summary.properties ≡ properties_given g
@@ -110,7 +108,7 @@ pub record WrittenOutput (g : Given) (out : List ℕ) (n : Bytes) : Type 0 where
 
 -- "Given room, writing what was read from an accepted section gives that section again with X bits and padding zero."
 pub record WrittenAgain (s out : List ℕ) (r : Section) : Type 0 where
-  pub answer : write_answer (given_of r s) out ≡ Written r.summary.parts.section_length
+  pub answer : write_answer (given_of r s) out ≡ Ok r.summary.parts.section_length
   pub section : take r.summary.parts.section_length.0 (write_bytes (given_of r s) out) ≡ masked (carried r.summary) s
   pub behind : drop r.summary.parts.section_length.0 (write_bytes (given_of r s) out)
       ≡ drop r.summary.parts.section_length.0 out
@@ -118,10 +116,10 @@ pub record WrittenAgain (s out : List ℕ) (r : Section) : Type 0 where
 pub record Writing : Type 0 where
   -- C-17, "same numbers, same order": with its places the same step refuses as in 01
   pub same_step : (g : Given) → (write_refusal g).number ≡ (base_write_refusal g).number
-  pub written : (g : Given) (out : List ℕ) (n : Bytes) → WellFormed g → write_answer g out ≡ Written n → WrittenOutput g out n
-  pub written_again : (first : Bool) (s out : List ℕ) (r : Section) → Octets s → read first s ≡ Accepted r
+  pub written : (g : Given) (out : List ℕ) (n : Bytes) → WellFormed g → write_answer g out ≡ Ok n → WrittenOutput g out n
+  pub written_again : (first : Bool) (s out : List ℕ) (r : Section) → Octets s → read first s ≡ Ok r
       → r.summary.parts.section_length.0 ≤ length out → WrittenAgain s out r
   -- the support copy is what the writer makes of the reading with every private bit zero, in every output
-  pub support_copy : (first : Bool) (s out : List ℕ) (r : Section) → Octets s → read first s ≡ Accepted r
+  pub support_copy : (first : Bool) (s out : List ℕ) (r : Section) → Octets s → read first s ≡ Ok r
       → (write_answer (hidden (given_of r s)) out ≡ support_answer first s out)
       × (write_bytes (hidden (given_of r s)) out ≡ support_bytes first s out)

@@ -1,5 +1,6 @@
 -- 01, "Writing": "It applies 28, then the same steps without S1, S9, P1, P6, then 13"
-use Rattle.std.specs.Prelude.{ℕ, ◌+◌, ◌%◌, Bool, not, cond, List, [], ◌++◌, length, replicate, eqb, ltb}
+use Rattle.std.specs.Prelude.{Result, ℕ, ◌+◌, ◌%◌, Bool, not, cond, List, [], ◌++◌, length, replicate, eqb, ltb}
+use Rattle.octets.specs.declared.count.Bytes.{Bytes}
 use Rattle.octets.specs.Padding.{padding}
 use Rattle.rules.specs.Output.{writer_answer, writer_output}
 use Rattle.rules.specs.Place.{header_refusal, name_break, section_refusal}
@@ -9,7 +10,6 @@ use Rattle.rules.specs.Row.{row_bytes}
 use Rattle.rules.specs.Security.{part_too_large, provider_text, security_contents, security_length, security_row, security_steps}
 use Rattle.rules.specs.declared.properties.PropertiesFields.{PropertiesFields}
 use Rattle.rules.specs.declared.refusal.Refusal.{Refusal}
-use Rattle.rules.specs.declared.section.Output.{Output}
 use Rattle.rules.specs.declared.security.SecurityFields.{SecurityFields}
 use Rattle.writing.specs.Given.{Given, fixed, properties_given, security_given}
 
@@ -70,19 +70,18 @@ unfoldable pub padded_part : List ℕ → List ℕ
 padded_part xs = xs ++ replicate (padding 4 (length xs)) 0
 
 -- the parts of a SecurityHeader, each with its padding
-unfoldable pub security_parts_bytes : List ℕ → List ℕ → List ℕ → List ℕ → List ℕ → List ℕ
-security_parts_bytes sender_id encryption_key signature sender_cert provider_info =
-    padded_part sender_id
-    ++ (padded_part encryption_key ++ (padded_part signature ++ (padded_part sender_cert ++ padded_part provider_info)))
+unfoldable pub security_parts_bytes : Given → List ℕ
+security_parts_bytes g =
+    padded_part g.sender_id
+    ++ (padded_part g.encryption_key
+    ++ (padded_part g.signature ++ (padded_part g.sender_cert ++ padded_part g.provider_info)))
 
 -- the fixed bytes of a SecurityHeader, then the parts
 unfoldable pub security_fixed : Given → List ℕ
 security_fixed g = row_bytes security_row (security_given g)
 
 unfoldable pub security_bytes : Given → List ℕ
-security_bytes g =
-    security_fixed g
-    ++ security_parts_bytes g.sender_id g.encryption_key g.signature g.sender_cert g.provider_info
+security_bytes g = security_fixed g ++ security_parts_bytes g
 
 -- the fixed bytes of a MessagePropertiesHeader, then the parts
 unfoldable pub properties_fixed : Given → List ℕ
@@ -95,7 +94,7 @@ unfoldable pub section_bytes : Given → List ℕ
 section_bytes g = cond g.values.security_first (security_bytes g) [] ++ properties_bytes g
 
 -- what the section writer answers: the refusal, 13, or the length
-unfoldable pub write_answer : Given → List ℕ → Output
+unfoldable pub write_answer : Given → List ℕ → Result Bytes Refusal
 write_answer g out = writer_answer (write_refusal g) (layout_length g) out
 
 -- what the lent output then holds

@@ -9,6 +9,7 @@ use octets::over::{copy, zero};
 use octets::padding::padding;
 
 // The part and its padding, which is zero. Answers how many bytes that are.
+#[tactic(auto, unfolding(octets::specs::Padding::padded))]
 pub(crate) fn write_padded_part(part: &[u8], out: &mut [u8]) -> Bytes
     requires { padded 4 (length part.now) ≤ length out.old }
     ensures result_value { result.0 ≡ padded 4 (length part.now) }

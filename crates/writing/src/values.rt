@@ -1,4 +1,4 @@
-// What the section writer is given beside the parts.
+// What the section writer is given: values, and the parts beside them.
 use octets::count::Bytes;
 use rules::section::CorrelationId;
 
@@ -17,4 +17,18 @@ pub struct SectionValues {
     pub hash_algorithm: u32,
     pub encryption_algorithm: u32,
     pub correlation_id: CorrelationId,
+}
+
+// Without a SecurityHeader its values and parts are ignored.
+#[derive(Clone, Copy)]
+pub struct SectionGiven<'a> {
+    pub values: SectionValues,
+    pub sender_id: &'a [u8],
+    pub encryption_key: &'a [u8],
+    pub signature: &'a [u8],
+    pub sender_cert: &'a [u8],
+    pub provider_info: &'a [u8],
+    pub label: &'a [u8],
+    pub extension: &'a [u8],
+    pub body: &'a [u8],
 }

@@ -79,6 +79,18 @@ fn in_the_file(name: &str) -> Vec<(u32, String)> {
         .collect()
 }
 
+/// The cases `Name = number,` of an enum of a file.
+fn in_the_enum(name: &str, of: &str) -> Vec<(u32, String)> {
+    let source = file(name);
+    let cases = between(&source, &format!("pub enum {of} {{"), "}").lines().filter_map(|line| line.trim().strip_suffix(','));
+    cases
+        .map(|case| {
+            let (name, number) = case.split_once(" = ").expect("a name and a number");
+            (number.parse().expect("a number"), in_rattle(name))
+        })
+        .collect()
+}
+
 /// The numbers and names of rows.
 fn names(rows: Vec<Row>) -> Vec<(u32, String)> {
     rows.into_iter().map(|(number, name, _)| (number, name)).collect()
@@ -89,7 +101,7 @@ fn refusals_are_called_alike_everywhere() {
     let rows: Vec<Row> = Kind::ALL.iter().map(|&kind| here(kind as u32, kind, kind.text())).collect();
     assert_eq!(in_the_header("UGB_REFUSALS"), rows);
     assert_eq!(in_the_readme(), rows);
-    assert_eq!(in_the_file("crates/rules/src/refusal.rt"), names(rows));
+    assert_eq!(in_the_enum("crates/rules/src/refusal.rt", "Cause"), names(rows));
 }
 
 #[test]

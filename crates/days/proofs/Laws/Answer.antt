@@ -1,5 +1,10 @@
 -- The answer, by how many records there are and whether a bad or cut one follows; and what an answer tells of them.
-use Prim.Native.Nat.{ℕ, ◌<◌, ◌≤◌}
+use Prim.Native.Nat.{ℕ, ◌<◌, ◌≤◌, min}
+use Rattle.days.specs.declared.answer.DayRefusal.{DayRefusal}
+use Rattle.days.specs.declared.answer.Records.{Records}
+use Rattle.records.specs.declared.record.Line.{Line}
+use Rattle.rules.specs.declared.refusal.Refusal.{Refusal}
+use Rattle.std.specs.Prelude.{Err, Ok, Result}
 use mathlib.Core.Path.{◌≡◌, refl, sym, ap, ◌∙◌}
 use mathlib.Core.Bool.{Bool, true, false, ◌||◌, cond, true≢false}
 use mathlib.Core.Logic.{◌⊎◌, inl, inr}
@@ -9,16 +14,13 @@ use borrow.Author.Tests.{le-ltb, lt-ltb, ltb-false, ltb-true}
 use lib.ListN.{length}
 use lib.Dec.{ltb}
 use Rattle.rules.proofs.Laws.Accepted.{neither}
-use Rattle.records.specs.declared.record.Answer.{Answer}
 use Rattle.days.specs.Day.{DayRecords, counted, day_answer, fills, read, refused, too_many}
-use Rattle.days.specs.declared.answer.DayRead.{DayRead}
-use Rattle.days.specs.declared.answer.DayRead.TheVariants.{Read, Refused}
 
 -- a test that is told
-chosen : {b : Bool} (x y : DayRead) → b ≡ true → cond b x y ≡ x
+chosen : {b : Bool} (x y : Result Records DayRefusal) → b ≡ true → cond b x y ≡ x
 chosen x y e = rw e
 
-passed : {b : Bool} (x y : DayRead) → b ≡ false → cond b x y ≡ y
+passed : {b : Bool} (x y : Result Records DayRefusal) → b ≡ false → cond b x y ≡ y
 passed x y e = rw e
 
 -- the test for 16
@@ -44,21 +46,28 @@ many n slots e = go (ltb slots n) refl
     go true h = inl (ltb-true slots n h)
     go false h = inr (ltb-true 256 n (sym (ap (λ (a : Bool). a || ltb 256 n) h) ∙ e))
 
+pub above_min : (n slots : ℕ) → min slots 256 < n → (slots < n) ⊎ (256 < n)
+above_min n slots h = go (ltb slots n) refl
+  where
+    go : (b : Bool) → ltb slots n ≡ b → (slots < n) ⊎ (256 < n)
+    go true e = inl (ltb-true slots n e)
+    go false e = inr (omega (arith, ltb-false slots n e))
+
 not-many : (n slots : ℕ) → too_many n slots ≡ false → (n ≤ slots) × (n ≤ 256)
 unfolding too_many
 not-many n slots e = let h = neither (ltb slots n) (ltb 256 n) e in (ltb-false slots n h.0, ltb-false 256 n h.1)
 
 -- the refusal's number in an answer, and the number of records
-abbrev number : DayRead → ℕ
-number (Read n) = 0
-number (Refused r) = r.number
+abbrev number : Result Records DayRefusal → ℕ
+number (Ok n) = 0
+number (Err r) = r.number
 
-abbrev told : DayRead → ℕ
-told (Read n) = n.0
-told (Refused r) = r.place.0
+abbrev told : Result Records DayRefusal → ℕ
+told (Ok n) = n.0
+told (Err r) = r.place.0
 
 -- whether a bad or cut record follows or not, it does not count
-counted_is : (answers : List Answer) (stops : Bool) → counted (record { answers = answers; stops = stops }) ≡ length answers
+counted_is : (answers : List (Result Line Refusal)) (stops : Bool) → counted (record { answers = answers; stops = stops }) ≡ length answers
 unfolding counted
 counted_is answers true = omega arith
 counted_is answers false = omega arith
@@ -67,7 +76,7 @@ module _ (d : DayRecords) (slots : ℕ) where
   abbrev count : ℕ
   count = length d.answers
 
-  abbrev by : ℕ → DayRead
+  abbrev by : ℕ → Result Records DayRefusal
   by n = cond (too_many n slots) (refused 16 0) (cond d.stops (refused 15 n) (read n))
 
   by_count : day_answer d slots ≡ by count
@@ -89,7 +98,7 @@ module _ (d : DayRecords) (slots : ℕ) where
     day-read e = sym (no-16 ∙ passed _ _ e)
 
   -- an answer comes from one of the three
-  cases : {P : Type 0} (a : DayRead) → day_answer d slots ≡ a → (too_many count slots ≡ true → refused 16 0 ≡ a → P)
+  cases : {P : Type 0} (a : Result Records DayRefusal) → day_answer d slots ≡ a → (too_many count slots ≡ true → refused 16 0 ≡ a → P)
       → (too_many count slots ≡ false → d.stops ≡ true → refused 15 count ≡ a → P)
       → (too_many count slots ≡ false → d.stops ≡ false → read count ≡ a → P) → P
   cases {P} a e in-16 in-15 in-read = go (too_many count slots) d.stops refl refl

@@ -1,5 +1,7 @@
 -- Which of a file's first bytes are enough: so many of the longest records decide so many records.
 use Prim.Native.Nat.{ℕ, zero, suc, ◌+◌, ◌*◌, ◌-◌, ◌≤◌}
+use Rattle.records.specs.declared.head.Next.TheVariants.{End, Found, Stop}
+use Rattle.records.specs.declared.head.Next.{Next}
 use mathlib.Core.Path.{◌≡◌, refl, sym, ap, ◌∙◌}
 use mathlib.Core.Bool.{false, true≢false}
 use mathlib.Core.Logic.{◌⊎◌, inl, inr, ⊎_elim}
@@ -10,8 +12,6 @@ use lib.ListN.{length, take, drop}
 use lib.Seq.{drop_at, length-take-le, take-add}
 use Rattle.records.specs.Enough.{is_enough}
 use Rattle.records.specs.Record.{next_record}
-use Rattle.records.specs.declared.record.Next.{Next}
-use Rattle.records.specs.declared.record.Next.TheVariants.{End, Stop, Found}
 use Rattle.records.specs.declared.record.Record.{Record}
 use Rattle.records.proofs.Laws.Enough.{enough}
 use Rattle.records.proofs.Laws.Record.{found-fits}
@@ -50,7 +50,7 @@ module _ (held : ℕ) (s : List ℕ) (room : 8 + 32768 ≤ held) where
   both = records-first cut ∙ ap (records_at cut records_of) (first-same held s room)
 
   -- no record
-  none : (n : Next) → next_record s ≡ n → records_at cut records_of n ≡ records_at s records_of n → records_of cut ≡ records_of s
+  none : (n : Next Record) → next_record s ≡ n → records_at cut records_of n ≡ records_at s records_of n → records_of cut ≡ records_of s
   none n e same = both ∙ ap (records_at cut records_of) e ∙ same ∙ sym (records-first s ∙ ap (records_at s records_of) e)
 
   -- one, and what lies behind it
@@ -74,7 +74,7 @@ unfolding records_at
 records-alike zero held s room = inr (omega arith, omega arith)
 records-alike (suc k) held s room = go (next_record s) refl (λ n t h. records-alike k n t h)
   where
-    go : (n : Next) → next_record s ≡ n
+    go : (n : Next Record) → next_record s ≡ n
         → ((n : ℕ) (t : List ℕ) → k * (8 + 32768) ≤ n → Alike k (records_of (take n t)) (records_of t))
         → Alike (suc k) (records_of (take held s)) (records_of s)
     go End e rest = inl (none held s (omega arith) End e refl)

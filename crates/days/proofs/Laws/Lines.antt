@@ -1,5 +1,11 @@
 -- The listing's lines, by the answers on a file's records.
 use Prim.Native.Nat.{ℕ, zero, suc, ◌+◌, ◌<◌}
+use Rattle.records.specs.declared.head.Next.TheVariants.{End, Found, Stop}
+use Rattle.records.specs.declared.head.Next.{Next}
+use Rattle.records.specs.declared.record.Record.{Record}
+use Rattle.records.specs.declared.record.Line.{Line}
+use Rattle.rules.specs.declared.refusal.Refusal.{Refusal}
+use Rattle.std.specs.Prelude.{Result}
 use mathlib.Core.Path.{◌≡◌, refl, sym, ap, ap₂, ◌∙◌}
 use mathlib.Core.Bool.{Bool, cond}
 use mathlib.Core.List.{List, [], ◌∷◌, ◌++◌, append_assoc, map}
@@ -9,9 +15,6 @@ use lib.ListN.{length, drop}
 use Rattle.records.specs.Line.{end_line, header_line, line_bytes, stop_line}
 use Rattle.records.specs.Listing.{lines_from, lines_of, listing}
 use Rattle.records.specs.Record.{next_record}
-use Rattle.records.specs.declared.record.Answer.{Answer}
-use Rattle.records.specs.declared.record.Next.{Next}
-use Rattle.records.specs.declared.record.Next.TheVariants.{End, Stop, Found}
 use Rattle.days.specs.Day.{DayRecords, records_at, records_of, slots_of}
 use Rattle.days.specs.Slot.{slot_of}
 use Rattle.days.specs.Theorems.{lines_in}
@@ -19,7 +22,7 @@ use Rattle.days.proofs.Laws.Records.{fewer, records-first}
 use Rattle.days.proofs.Laws.Slot.{found-told}
 
 -- the lines of these answers, the first of which has this number
-unfoldable lines_of_answers : ℕ → List Answer → List ℕ
+unfoldable lines_of_answers : ℕ → List (Result Line Refusal) → List ℕ
 lines_of_answers number [] = []
 lines_of_answers number (a ∷ rest) = line_bytes number a ++ lines_of_answers (suc number) rest
 
@@ -36,7 +39,7 @@ lines-records zero number s h = absurd (omega arith)
 lines-records (suc most) number s h =
     go (next_record s) refl (λ t l. lines-records most (suc number) t l) ∙ ap (lines_of_records number) (sym (records-first s))
   where
-    go : (n : Next) → next_record s ≡ n
+    go : (n : Next Record) → next_record s ≡ n
         → ((t : List ℕ) → length t < most → lines_from most (suc number) t ≡ lines_of_records (suc number) (records_of t))
         → lines_of number s (lines_from most (suc number)) (next_record s) ≡ lines_of_records number (records_at s records_of (next_record s))
     go End e same = rw e (ap end_line (omega arith))
@@ -63,14 +66,14 @@ slots-lines (suc most) number s h =
     ∙ go (next_record s) refl (λ t l. slots-lines most (suc number) t l)
     ∙ ap (λ (d : DayRecords). lines_of_answers number d.answers) (sym split)
   where
-    go : (n : Next) → next_record s ≡ n
+    go : (n : Next Record) → next_record s ≡ n
         → ((t : List ℕ) → length t < most → lines_in (suc number) (slots_of (records_of t)) ≡ lines_of_answers (suc number) (records_of t).answers)
         → lines_in number (map slot_of (records_at s records_of (next_record s)).answers)
         ≡ lines_of_answers number (records_at s records_of (next_record s)).answers
     go End e same = rw e refl
     go Stop e same = rw e refl
     go (Found r) e same =
-        rw e (ap₂ (λ (a : Answer) (l : List ℕ). line_bytes number a ++ l) (found-told s r e) (same (drop r.size.0 s) (fewer s r most e h)))
+        rw e (ap₂ (λ (a : Result Line Refusal) (l : List ℕ). line_bytes number a ++ l) (found-told s r e) (same (drop r.size.0 s) (fewer s r most e h)))
 
 -- the listing of a file: its slots' lines, and the last
 pub listing-slots : (s : List ℕ)

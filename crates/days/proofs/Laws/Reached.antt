@@ -1,5 +1,10 @@
 -- How far a pass over the file has come: behind its first n records, at an offset.
 use Prim.Native.Nat.{ℕ, ◌+◌, ◌-◌, ◌<◌, ◌≤◌}
+use Rattle.records.specs.declared.head.Next.TheVariants.{End, Found, Stop}
+use Rattle.records.specs.declared.head.Next.{Next}
+use Rattle.records.specs.declared.record.Line.{Line}
+use Rattle.rules.specs.declared.refusal.Refusal.{Refusal}
+use Rattle.std.specs.Prelude.{Result}
 use mathlib.Core.Path.{◌≡◌, refl, sym, ap, ◌∙◌}
 use mathlib.Core.Bool.{Bool, true, false}
 use mathlib.Core.List.{List, [], ◌∷◌}
@@ -10,36 +15,35 @@ use Rattle.octets.proofs.Laws.Part.{rest-drop}
 use Rattle.records.specs.Head.{next_head}
 use Rattle.records.specs.Record.{next_record, record_behind, record_of}
 use Rattle.records.specs.declared.head.Head.{Head}
-use Rattle.records.specs.declared.head.NextHead.{NextHead}
-use Rattle.records.specs.declared.head.NextHead.TheVariants.{End as NextHead-as-End, Stop as NextHead-as-Stop, Found as NextHead-as-Found}
-use Rattle.records.specs.declared.record.Answer.{Answer}
-use Rattle.records.specs.declared.record.Next.{Next}
-use Rattle.records.specs.declared.record.Next.TheVariants.{End, Stop, Found}
 use Rattle.records.specs.declared.record.Record.{Record}
 use Rattle.records.proofs.Laws.Record.{found-fits}
 use Rattle.days.specs.Day.{DayRecords, records_at, records_of}
 use Rattle.days.proofs.Laws.Records.{records-first}
 
 -- the record of what is left, lent from an offset on
-pub next-rest : (s : List ℕ) (at : ℕ) {told x : Next} → told ≡ next_record (take (length s - at) (drop at s)) → told ≡ x
+pub next-rest : (s : List ℕ) (at : ℕ) {told x : Next Record} → told ≡ next_record (take (length s - at) (drop at s)) → told ≡ x
     → next_record (drop at s) ≡ x
 next-rest s at e h = sym (e ∙ ap next_record (rest-drop s at)) ∙ h
 
+pub rest-next : (s : List ℕ) (at : ℕ) {told x : Next Record} → told ≡ next_record (take (length s - at) (drop at s))
+    → next_record (drop at s) ≡ x → told ≡ x
+rest-next s at e h = e ∙ ap next_record (rest-drop s at) ∙ h
+
 -- the head of what is left, lent from an offset on, tells the next record
-module _ (s : List ℕ) (at : ℕ) {told : NextHead} (e : told ≡ next_head (take (length s - at) (drop at s))) where
+module _ (s : List ℕ) (at : ℕ) {told : Next Head} (e : told ≡ next_head (take (length s - at) (drop at s))) where
   next : next_record (drop at s) ≡ record_behind (drop at s) told
   unfolding next_record
   next = ap (record_behind (drop at s)) (sym (e ∙ ap next_head (rest-drop s at)))
 
-  pub head-end : told ≡ NextHead-as-End → next_record (drop at s) ≡ End
+  pub head-end : told ≡ End → next_record (drop at s) ≡ End
   unfolding record_behind
   head-end h = next ∙ ap (record_behind (drop at s)) h
 
-  pub head-stop : told ≡ NextHead-as-Stop → next_record (drop at s) ≡ Stop
+  pub head-stop : told ≡ Stop → next_record (drop at s) ≡ Stop
   unfolding record_behind
   head-stop h = next ∙ ap (record_behind (drop at s)) h
 
-  pub head-found : (h : Head) → told ≡ NextHead-as-Found h → next_record (drop at s) ≡ Found (record_of (drop at s) h)
+  pub head-found : (h : Head) → told ≡ Found h → next_record (drop at s) ≡ Found (record_of (drop at s) h)
   unfolding record_behind
   head-found h f = next ∙ ap (record_behind (drop at s)) f
 
@@ -53,7 +57,7 @@ pub reached-none : (s : List ℕ) → Reached s 0 0
 reached-none s = record { inside = omega arith; counted = omega arith; answers = refl; stops = refl }
 
 module _ {s : List ℕ} {n at : ℕ} (x : Reached s n at) where
-  abbrev here : Next → DayRecords
+  abbrev here : Next Record → DayRecords
   here = records_at (drop at s) records_of
 
   left : length (records_of (drop at s)).answers + n ≡ length (records_of s).answers
@@ -94,10 +98,10 @@ module _ {s : List ℕ} {n at : ℕ} (x : Reached s n at) where
     size_fits = let f = found-fits (drop at s) r found in (f.0, omega (arith, f.1, length-drop at s, x.inside))
 
     -- its answer is the next one
-    pub next-answer : (d : Answer) → get_or (records_of s).answers n d ≡ r.answer
+    pub next-answer : (d : Result Line Refusal) → get_or (records_of s).answers n d ≡ r.answer
     next-answer d =
         let all = (records_of s).answers in
-        ap (λ (k : ℕ). get_or all k d) (omega arith) ∙ sym (get_or-drop n all 0 d) ∙ ap (λ (l : List Answer). get_or l 0 d) ahead
+        ap (λ (k : ℕ). get_or all k d) (omega arith) ∙ sym (get_or-drop n all 0 d) ∙ ap (λ (l : List (Result Line Refusal)). get_or l 0 d) ahead
 
     pub reached-next : Reached s (n + 1) (at + r.size.0)
     reached-next =

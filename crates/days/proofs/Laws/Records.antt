@@ -1,12 +1,12 @@
 -- The records of a file: by its first one, and those behind it.
 use Prim.Native.Nat.{ℕ, zero, suc, ◌<◌}
+use Rattle.records.specs.declared.head.Next.TheVariants.{End, Found, Stop}
+use Rattle.records.specs.declared.head.Next.{Next}
 use mathlib.Core.Path.{◌≡◌, refl}
 use mathlib.Core.List.{List}
 use native.Mathlib.Omega.{arith}
 use lib.ListN.{length, drop, length-drop}
 use Rattle.records.specs.Record.{next_record}
-use Rattle.records.specs.declared.record.Next.{Next}
-use Rattle.records.specs.declared.record.Next.TheVariants.{End, Stop, Found}
 use Rattle.records.specs.declared.record.Record.{Record}
 use Rattle.records.proofs.Laws.Record.{found-fits}
 use Rattle.days.specs.Day.{records_at, records_from, records_of}
@@ -22,7 +22,7 @@ records-more zero k s hj hk = absurd (omega arith)
 records-more (suc j) zero s hj hk = absurd (omega arith)
 records-more (suc j) (suc k) s hj hk = go (next_record s) refl (λ t tj tk. records-more j k t tj tk)
   where
-    go : (n : Next) → next_record s ≡ n → ((t : List ℕ) → length t < j → length t < k → records_from j t ≡ records_from k t)
+    go : (n : Next Record) → next_record s ≡ n → ((t : List ℕ) → length t < j → length t < k → records_from j t ≡ records_from k t)
         → records_at s (records_from j) (next_record s) ≡ records_at s (records_from k) (next_record s)
     go End e same = rw e
     go Stop e same = rw e
@@ -33,7 +33,7 @@ pub records-first : (s : List ℕ) → records_of s ≡ records_at s records_of 
 unfolding records_of records_from records_at
 records-first s = go (next_record s) refl
   where
-    go : (n : Next) → next_record s ≡ n → records_at s (records_from (length s)) (next_record s) ≡ records_at s records_of (next_record s)
+    go : (n : Next Record) → next_record s ≡ n → records_at s (records_from (length s)) (next_record s) ≡ records_at s records_of (next_record s)
     go End e = rw e
     go Stop e = rw e
     go (Found r) e =

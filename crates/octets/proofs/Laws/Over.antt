@@ -9,8 +9,8 @@ use native.Mathlib.Nat.{add_assoc, zero-add}
 use native.Mathlib.Numerals.{add-one}
 use native.Mathlib.Omega.{arith}
 use lib.ListN.{length, get_or, take, drop, set, replicate, length-append, length-drop, length-replicate, replicate-append-replicate, take-append-drop}
-use lib.Seq.{append_snoc, length-take-le, take-add, take_all, take-append-le, take_at, take-suc, take-take}
-use lib.Seq.{drop_at, drop-append-add, drop-cons, drop-drop, drop-length, set_at, set_split}
+use lib.Seq.{append_snoc, length-take-le, take_all, take_at, take-suc}
+use lib.Seq.{drop_at, drop-cons, drop-drop, drop-length, set_at, set_split}
 use Rattle.octets.proofs.Laws.Part.{rest-drop}
 use Rattle.octets.specs.Over.{over, over_at, copied}
 
@@ -112,13 +112,6 @@ copied-both n s out e = go (ltb (length s) (length out)) refl
 pub copied-whole : (s out : List ℕ) → length s ≡ length out → copied s out ≡ s
 copied-whole s out e = copied-fits s out (omega arith) ∙ over-whole s out e
 
--- by way of an array as long as both
-pub copied-through : {array later : List ℕ} (n : ℕ) (s out : List ℕ) → length s ≡ n → length out ≡ n
-    → array ≡ copied s (replicate n 0) → later ≡ copied array out → later ≡ s
-copied-through n s out a b into from =
-    let whole = into ∙ copied-whole s (replicate n 0) (a ∙ sym (length-replicate {A = ℕ} n 0)) in
-    from ∙ ap (λ (x : List ℕ). copied x out) whole ∙ copied-whole s out (a ∙ sym b)
-
 -- a lent part of n bytes from an offset: what it then holds is written from there on
 module _ (at n : ℕ) (out : List ℕ) (h : at + n ≤ length out) where
   pub length-lent : length (take (at + n - at) (drop at out)) ≡ n
@@ -204,37 +197,3 @@ written-zeros {now = now} at n later w a h e =
 pub written-take : {p out : List ℕ} {end : ℕ} {now : List ℕ} → Written p out end now → take end now ≡ p
 unfolding over
 written-take {p} {out} {end} w = ap (take end) w.bytes ∙ take_at p (drop (length p) out) end w.ends
-
--- the next bytes of a part, through a lent part of it from j to n, which may begin before them
-pub written-block : {out now : List ℕ} (s : List ℕ) (i j n : ℕ) (later : List ℕ) → Written (take i s) out i now
-    → j ≤ i → i ≤ n → n ≤ length s → later ≡ take (n - j) (drop j s)
-    → Written (take n s) out n (take j now ++ (later ++ drop (n - j) (drop j now)))
-unfolding over
-written-block {out} {now} s i j n later w a b o l =
-    let k = n - j in
-    let split : now ≡ take i s ++ drop i out = w.bytes ∙ ap (λ (m : ℕ). take i s ++ drop m out) w.ends in
-    let front : take j now ≡ take j s =
-    ap (take j) split ∙ take-append-le j (take i s) (drop i out) (omega (arith, w.ends)) ∙ take-take j i s a in
-    let end : j + k ≡ n = omega arith in
-    let at : j + k ≡ length (take i s) + (n - i) = omega (arith, w.ends) in
-    let end' : i + (n - i) ≡ n = omega arith in
-    let rest : drop k (drop j now) ≡ drop n out =
-    drop-drop k j now
-    ∙ ap (λ (m : ℕ). drop m now) at
-    ∙ ap (drop (length (take i s) + (n - i))) split
-    ∙ drop-append-add (take i s) (drop i out) (n - i)
-    ∙ drop-drop (n - i) i out
-    ∙ ap (λ (m : ℕ). drop m out) end' in
-    let whole : take j s ++ take k (drop j s) ≡ take n s = sym (take-add j k s) ∙ ap (λ (m : ℕ). take m s) end in
-    let ends : length (take n s) ≡ n = length-take-le n s o in
-    record { ends = ends; bytes = rw (l, front, rest, ← append_assoc (take j s) (take k (drop j s)) (drop n out), whole, ends) }
-
--- and the last, where they are copied
-pub written_last : {out now : List ℕ} (s : List ℕ) (i n : ℕ) (later : List ℕ) → Written (take i s) out i now
-    → i ≤ n → n ≤ length s → n ≤ length out → length now ≡ length out
-    → later ≡ copied (take (n - i) (drop i s)) (take (n - i) (drop i now))
-    → Written (take n s) out n (take i now ++ (later ++ drop (n - i) (drop i now)))
-written_last {out} {now} s i n later w a b o m l =
-    let p : length (take (n - i) (drop i s)) ≡ n - i = length-take-le (n - i) (drop i s) (rw length-drop (omega arith)) in
-    let q : length (take (n - i) (drop i now)) ≡ n - i = length-take-le (n - i) (drop i now) (rw length-drop (omega arith)) in
-    written-block s i i n later w (omega arith) a b (l ∙ copied-whole (take (n - i) (drop i s)) (take (n - i) (drop i now)) (p ∙ sym q))

@@ -1,5 +1,6 @@
 -- The answer of what is kept is that of one-go reading: step by step, and the summary of what passed them.
 use Prim.Native.Nat.{ℕ, ◌+◌, ◌-◌, ◌≤◌, ◌<◌, min}
+use Rattle.std.specs.Prelude.{Err, Ok}
 use mathlib.Core.Path.{◌≡◌, refl, sym, ap, ap₂, subst, ◌∙◌}
 use mathlib.Core.Bool.{Bool, true, false, cond}
 use mathlib.Core.List.{List}
@@ -21,7 +22,6 @@ use Rattle.rules.specs.Security.{security_contents, security_fields, security_le
 use Rattle.rules.specs.Summary.{label_of, no_security, summary_of}
 use Rattle.rules.specs.declared.properties.PropertiesFields.{PropertiesFields}
 use Rattle.rules.specs.declared.refusal.Refusal.{Refusal}
-use Rattle.rules.specs.declared.section.Summarized.TheVariants.{Accepted, Refused}
 use Rattle.rules.specs.declared.section.Summary.{Summary}
 use Rattle.rules.specs.declared.security.SecurityFields.{SecurityFields}
 use Rattle.rules.specs.declared.security.SecurityHeader.{SecurityHeader}
@@ -222,16 +222,16 @@ module _ (first : Bool) (s : List ℕ) where
   unfolding held_answer summarize state_of
   state-answer =
       let m = held_summary first (state_of first s).head (state_of first s).provider_type (state_of first s).properties in
-      ap (λ (r : Refusal). cond (eqb r.number 0) (Accepted m) (Refused r)) (judge-held first s)
+      ap (λ (r : Refusal). cond (eqb r.number 0) (Ok m) (Err r)) (judge-held first s)
       ∙ go m (eqb (judge first s).number 0) refl summary-held
     where
       go : (m : Summary) (b : Bool) → eqb (judge first s).number 0 ≡ b → ((judge first s).number ≡ 0 → m ≡ summary_at first s)
-          → cond b (Accepted m) (Refused (judge first s)) ≡ cond b (Accepted (summary_at first s)) (Refused (judge first s))
-      go m true e same = ap Accepted (same (eqb-true (judge first s).number 0 e))
+          → cond b (Ok m) (Err (judge first s)) ≡ cond b (Ok (summary_at first s)) (Err (judge first s))
+      go m true e same = ap Ok (same (eqb-true (judge first s).number 0 e))
       go m false e same = refl
 
   -- "with the label held": it is the label
-  pub label-held : (m : Summary) → summarize first s ≡ Accepted m
+  pub label-held : (m : Summary) → summarize first s ≡ Ok m
       → held_label (state_of first s).properties m.parts.label.length.0 ≡ label_of m s
   unfolding label_of summary_at summary_of start_at fields_at properties_parts
   label-held m e =

@@ -1,16 +1,15 @@
 -- What a call does by whether the state is finished.
 use Prim.Native.Nat.{ℕ}
+use Rattle.std.specs.Prelude.{Err, Ok}
 use mathlib.Core.Path.{◌≡◌, refl, sym}
 use mathlib.Core.Bool.{Bool, true, false, ◌||◌, cond, true≢false}
 use mathlib.Core.List.{List}
 use lib.ListN.{length}
 use Rattle.rules.specs.Refusal.{refusal}
-use Rattle.rules.specs.declared.section.Summarized.TheVariants.{Refused}
 use Rattle.portions.specs.Finish.{finish_answer, held_answer}
 use Rattle.portions.specs.Portion.{portion_answer, portion_state}
 use Rattle.portions.specs.Fed.{before_provider, counted, counts_only, fed, gathered, label_length, past_label, past_security, properties_then, security_stays}
 use Rattle.portions.specs.State.{state_with}
-use Rattle.portions.specs.declared.portion.PortionAnswer.TheVariants.{Refused as Portion-as-Refused, Taken}
 use Rattle.portions.specs.declared.state.State.{State}
 
 module _ (x : State) (going : x.progress.finished ≡ false) where
@@ -19,7 +18,7 @@ module _ (x : State) (going : x.progress.finished ≡ false) where
   answered = rw going
 
 module _ (x : State) (t : List ℕ) (going : x.progress.finished ≡ false) where
-  pub taken-answer : portion_answer x t ≡ Taken (fed x t).progress
+  pub taken-answer : portion_answer x t ≡ Ok (fed x t).progress
   unfolding portion_answer
   taken-answer = rw going
 
@@ -28,12 +27,12 @@ module _ (x : State) (t : List ℕ) (going : x.progress.finished ≡ false) wher
   taken-state = rw going
 
 module _ (x : State) (closed : x.progress.finished ≡ true) where
-  pub refused-again : finish_answer x ≡ Refused (refusal 14 0)
+  pub refused-again : finish_answer x ≡ Err (refusal 14 0)
   unfolding finish_answer
   refused-again = rw closed
 
 module _ (x : State) (t : List ℕ) (closed : x.progress.finished ≡ true) where
-  pub refused-answer : portion_answer x t ≡ Portion-as-Refused (refusal 14 0)
+  pub refused-answer : portion_answer x t ≡ Err (refusal 14 0)
   unfolding portion_answer
   refused-answer = rw closed
 
@@ -63,24 +62,6 @@ module _ (x : State) (t : List ℕ) where
 
   abbrev by : Bool → Bool → Bool → State
   by a b c = cond a (counts x.properties) (cond b (counts (properties_then x.properties at k t)) (cond c (counts x.properties) (gathered x t)))
-
-  pub label-fed : label ≡ true → fed x t ≡ counts x.properties
-  unfolding fed
-  label-fed e = rw e
-
-  module _ (l : label ≡ false) where
-    pub properties-fed : security ≡ true → fed x t ≡ counts (properties_then x.properties at k t)
-    unfolding fed
-    properties-fed e = rw (l, e)
-
-    module _ (s : security ≡ false) where
-      pub before-fed : before ≡ true → fed x t ≡ counts x.properties
-      unfolding fed
-      before-fed e = rw (l, s, e)
-
-      pub gathered-fed : before ≡ false → fed x t ≡ gathered x t
-      unfolding fed
-      gathered-fed e = rw (l, s, e)
 
   -- the count alone changes of what is counted and judged, or all is gathered
   pub counts-fed : counts_only x (length t) ≡ true → (fed x t).progress ≡ counted x.progress (length t)

@@ -1,5 +1,6 @@
 -- What is judged of the bytes held, with either place, and the answer by it.
 use Prim.Native.Nat.{ℕ, ◌+◌, ◌≤◌, ◌<◌, min}
+use Rattle.std.specs.Prelude.{Err, Ok}
 use mathlib.Core.Path.{◌≡◌, refl, sym, ap, ◌∙◌}
 use mathlib.Core.Bool.{Bool, true, false, ◌&&◌, cond, true≢false}
 use mathlib.Core.List.{List}
@@ -11,7 +12,6 @@ use Rattle.rules.specs.Properties.{label_bytes}
 use Rattle.rules.specs.Refusal.{limit, refusal}
 use Rattle.rules.specs.Security.{cert_at, key_at, provider_at, read_security, security_length, security_steps, signature_at}
 use Rattle.rules.specs.declared.refusal.Refusal.{Refusal}
-use Rattle.rules.specs.declared.section.Summarized.TheVariants.{Accepted, Refused}
 use Rattle.rules.specs.declared.security.SecurityFields.{SecurityFields}
 use Rattle.rules.proofs.Laws.Accepted.{passed, section-number}
 use Rattle.rules.proofs.Laws.Place.{refused-at, small-header}
@@ -93,11 +93,11 @@ module _ (x : State) where
   abbrev judged : Refusal
   judged = held_judge x.progress x.head x.properties
 
-  pub held-refused : (r : Refusal) → r ≡ judged → ¬ (judged.number ≡ 0) → Refused r ≡ held_answer x
+  pub held-refused : (r : Refusal) → r ≡ judged → ¬ (judged.number ≡ 0) → Err r ≡ held_answer x
   unfolding held_answer
-  held-refused r e some = rw (ne_eqb judged.number 0 some) (ap Refused e)
+  held-refused r e some = rw (ne_eqb judged.number 0 some) (ap Err e)
 
   pub held-accepted : judged.number ≡ 0
-      → held_answer x ≡ Accepted (held_summary x.progress.security_first x.head x.provider_type x.properties)
+      → held_answer x ≡ Ok (held_summary x.progress.security_first x.head x.provider_type x.properties)
   unfolding held_answer
   held-accepted none = rw (eq-eqb judged.number 0 none)

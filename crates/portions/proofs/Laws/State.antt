@@ -102,10 +102,10 @@ fed-state first s t = go (test-label first s t) refl (test-security first s t) r
     go false e true f = security-behind first s t f
     go false e false f = goes_on first s t f
 
-window-nil : (n at : ℕ) → window n [] at ≡ replicate n 0
+window-nil : (n from : ℕ) → window n [] from ≡ replicate n 0
 unfolding window
-window-nil zero at = refl
-window-nil (suc n) at = ap (λ (l : List ℕ). 0 ∷ l) (window-nil n (suc at))
+window-nil zero from = refl
+window-nil (suc n) from = ap (λ (l : List ℕ). 0 ∷ l) (window-nil n (suc from))
 
 no_bytes : (first : Bool) → security_in first [] ≡ []
 no_bytes true = refl

@@ -1,5 +1,6 @@
 -- What holds of an image that passes the reader's steps, and when it does.
 use Prim.Native.Nat.{ℕ, ◌+◌, ◌≤◌}
+use Rattle.std.specs.Prelude.{Err, Ok}
 use mathlib.Core.Path.{◌≡◌, refl, ◌∙◌}
 use mathlib.Core.Bool.{Bool, true, false}
 use mathlib.Core.List.{List}
@@ -13,7 +14,6 @@ use Rattle.rules.specs.declared.refusal.Refusal.{Refusal}
 use Rattle.queues.specs.Read.{format_of, image_of, image_steps, read_image}
 use Rattle.queues.specs.Steps.{fixed_size, format_steps, value_steps}
 use Rattle.queues.specs.declared.image.Image.{Image}
-use Rattle.queues.specs.declared.image.ImageRead.TheVariants.{Accepted, Refused}
 use Rattle.queues.proofs.Laws.Steps.{value-short}
 
 pub record Readable (s : List ℕ) : Type 0 where
@@ -45,20 +45,20 @@ unfolding image_steps
 steps-pass s r =
     rw (le-ltb (length s) 4 r.long) (first_next (format_steps (format_of s)) (value_steps (format_of s).kind (drop 4 s)) r.format ∙ r.value)
 
-pub readable-accepted : (s : List ℕ) → Readable s → read_image s ≡ Accepted (image_of s)
+pub readable-accepted : (s : List ℕ) → Readable s → read_image s ≡ Ok (image_of s)
 unfolding read_image
 readable-accepted s r = rw (eq-eqb (image_steps s) 0 (steps-pass s r))
 
 -- and no other
-pub accepted-readable : (s : List ℕ) (i : Image) → read_image s ≡ Accepted i → Readable s × (image_of s ≡ i)
+pub accepted-readable : (s : List ℕ) (i : Image) → read_image s ≡ Ok i → Readable s × (image_of s ≡ i)
 unfolding read_image
 accepted-readable s i r = go (eqb (image_steps s) 0) refl
   where
-    wrong : (q : Refusal) → Refused q ≡ Accepted i → Readable s × (image_of s ≡ i)
+    wrong : (q : Refusal) → Err q ≡ Ok i → Readable s × (image_of s ≡ i)
     wrong q e = let z : ◌≡◌ {A = ℕ} 0 1 = cc in absurd (omega arith)
 
     go : (b : Bool) → eqb (image_steps s) 0 ≡ b → Readable s × (image_of s ≡ i)
     go false e = wrong (refusal (image_steps s) 0) (rw e at r)
     go true e =
-        let same : Accepted (image_of s) ≡ Accepted i = rw e at r in
+        let same : Ok (image_of s) ≡ Ok i = rw e at r in
         (readable s (eqb-true (image_steps s) 0 e), cc)

@@ -1,5 +1,6 @@
 -- What is written reads back, and what is read writes back. A string's rule is a label's.
 use Prim.Native.Nat.{ℕ, ◌+◌, ◌-◌, ◌≤◌}
+use Rattle.std.specs.Prelude.{Ok}
 use mathlib.Core.Path.{◌≡◌, refl, sym, ap, subst, ◌∙◌}
 use mathlib.Core.Bool.{Bool, true, false, and-true, and-false, false-and}
 use mathlib.Core.List.{List, [], ◌∷◌, ◌++◌}
@@ -19,14 +20,12 @@ use Rattle.rules.specs.Output.{writer_output}
 use Rattle.rules.specs.Properties.{label_text}
 use Rattle.rules.specs.Refusal.{bytes, refusal}
 use Rattle.rules.specs.Summary.{part_of}
-use Rattle.rules.specs.declared.section.Output.TheVariants.{Written}
 use Rattle.queues.specs.Read.{format_of, image_from, image_of, part_at, read_image}
 use Rattle.queues.specs.RoundTrip.{reserved_zero, ReadsBack, ReadWritesBack, StringIsLabel, WritesBack, WrittenReadsBack}
 use Rattle.queues.specs.Steps.{fixed_size, format_steps, is_string}
 use Rattle.queues.specs.Write.{image_bytes, write_answer, write_bytes, write_steps}
 use Rattle.queues.specs.declared.format.QueueFormat.{QueueFormat}
 use Rattle.queues.specs.declared.image.Image.{Image}
-use Rattle.queues.specs.declared.image.ImageRead.TheVariants.{Accepted}
 use Rattle.queues.proofs.Laws.Read.{accepted-readable, readable-accepted, readable-fits, Readable}
 use Rattle.queues.proofs.Laws.Write.{has_room, length-image, passing, Passing}
 
@@ -51,8 +50,8 @@ image-reads f fixed text p =
     record {
       image =
           readable-accepted s (record { long = omega arith; format = p.format; value = p.value })
-          ∙ ap (λ (k : ℕ). Accepted (image_from f k (length s - (4 + k)))) (sym p.size)
-          ∙ ap (λ (k : ℕ). Accepted (image_from f n k)) rest;
+          ∙ ap (λ (k : ℕ). Ok (image_from f k (length s - (4 + k)))) (sym p.size)
+          ∙ ap (λ (k : ℕ). Ok (image_from f n k)) rest;
       fixed-bytes = part_at-within s 4 n ∙ within_in s 4 n (omega arith) ∙ take_at fixed text n refl;
       text-bytes =
           part_at-within s (4 + n) m
@@ -61,7 +60,7 @@ image-reads f fixed text p =
           ∙ take-length text;
     }
 
-written-reads : (f : QueueFormat) (fixed text out : List ℕ) (n : ℕ) → write_answer f fixed text out ≡ Written (bytes n)
+written-reads : (f : QueueFormat) (fixed text out : List ℕ) (n : ℕ) → write_answer f fixed text out ≡ Ok (bytes n)
     → ReadsBack f fixed text (take n (write_bytes f fixed text out))
 unfolding write_answer write_bytes writer_output over
 written-reads f fixed text out n w =
@@ -114,7 +113,7 @@ module _ (s : List ℕ) (r : Readable s) where
   bytes-again : image_bytes (format_of s) (part_of s (image_of s).fixed ++ part_of s (image_of s).text) ≡ reserved_zero s
   bytes-again = rw (fixed-again, text-again, take-append-drop) (image-again s r.long)
 
-read-writes : (s : List ℕ) (i : Image) (out : List ℕ) → read_image s ≡ Accepted i → length s ≤ length out → WritesBack s i out
+read-writes : (s : List ℕ) (i : Image) (out : List ℕ) → read_image s ≡ Ok i → length s ≤ length out → WritesBack s i out
 unfolding image_of image_from
 read-writes s i out e h =
     let a = accepted-readable s i e in
@@ -127,7 +126,7 @@ read-writes s i out e h =
     let w = has_room f fixed text out (over (image_bytes f (fixed ++ text)) out) (steps-again s a.0) (omega arith) refl in
     subst (λ (j : Image). WritesBack s j out) a.1
     (record {
-      answer = sym w.0 ∙ ap (λ (n : ℕ). Written (bytes n)) size;
+      answer = sym w.0 ∙ ap (λ (n : ℕ). Ok (bytes n)) size;
       output = sym w.1 ∙ ap (λ (b : List ℕ). over b out) same;
     })
 

@@ -1,5 +1,6 @@
 -- The steps on a value: by the bytes behind its fixed ones, and a string's rule by its length.
 use Prim.Native.Nat.{ℕ, ◌+◌, ◌*◌, ◌-◌, ◌%◌, ◌≤◌, ◌<◌}
+use Rattle.std.specs.Prelude.{Err, IsErrAnd, MatchResult, Ok, Result}
 use mathlib.Core.Path.{◌≡◌, refl, sym, ap, subst, ◌∙◌}
 use mathlib.Core.Bool.{Bool, true, false, not, cond, and-true, and-false, false-and}
 use mathlib.Core.List.{List, [], ◌∷◌, ◌++◌}
@@ -11,7 +12,12 @@ use lib.Dec.{eqb, ltb}
 use Rattle.octets.specs.Text.{is_text, units}
 use Rattle.octets.proofs.Laws.Part.{rest-drop}
 use Rattle.octets.proofs.Laws.Text.{length-units}
+use Rattle.rules.proofs.Laws.Accepted.{first_next}
+use Rattle.rules.proofs.Laws.Cause.{not-0}
 use Rattle.rules.specs.Listed.{listed}
+use Rattle.rules.specs.Refusal.{first_of, number, number_of, refusal}
+use Rattle.rules.specs.declared.refusal.Cause.{Cause}
+use Rattle.rules.specs.declared.refusal.Refusal.{Refusal}
 use Rattle.queues.specs.Steps.{fixed_size, is_string, text_steps, value_steps}
 
 -- no type has more than 20 fixed bytes
@@ -117,3 +123,25 @@ pub value-split : (t : ℕ) (fixed text : List ℕ) → length fixed ≡ fixed_s
 value-split t fixed text e =
     value-drop t (fixed ++ text) (omega (arith, length-append fixed text))
     ∙ ap (text_steps t) (drop_at fixed text (fixed_size t) e)
+
+-- where the first steps pass, what is behind them
+pub first-passes : {n : ℕ} (steps next : ℕ) → 0 ≡ steps → n ≡ next → n ≡ first_of steps next
+first-passes steps next e p = p ∙ sym (first_next steps next (sym e))
+
+-- what `.map_err(Refusal::at_start)` makes of steps
+module _ {A : Type 0} where
+  abbrev pub AtStart : Result A Cause → Result A Refusal → Type 0
+  AtStart steps r = MatchResult steps (λ x. r ≡ Ok x) (λ c. IsErrAnd r (λ q. q ≡ refusal (number c) 0))
+
+  pub at_start-fails : {B : Type 0} (steps : Result A Cause) (r : Result A Refusal) (q : Refusal) (out : Result B Refusal) → AtStart steps r
+      → r ≡ Err q → IsErrAnd out (λ x. x ≡ q) → (out ≡ Err (refusal (number_of steps) 0)) × ¬ (number_of steps ≡ 0)
+  unfolding number_of
+  at_start-fails (Ok x) r q out h e w = let z : ◌≡◌ {A = ℕ} 0 1 = cc in absurd (omega arith)
+  at_start-fails (Err c) r q (Ok y) h e w = absurd w
+  at_start-fails (Err c) r q (Err y) h e w =
+      (ap Err (w ∙ subst (λ (r : Result A Refusal). IsErrAnd r (λ q. q ≡ refusal (number c) 0)) e h), not-0 c)
+
+  pub at_start-passes : (steps : Result A Cause) (r : Result A Refusal) (x : A) → AtStart steps r → r ≡ Ok x → number_of steps ≡ 0
+  unfolding number_of
+  at_start-passes (Ok y) r x h e = refl
+  at_start-passes (Err c) r x h e = absurd (subst (λ (r : Result A Refusal). IsErrAnd r (λ q. q ≡ refusal (number c) 0)) e h)

@@ -1,18 +1,18 @@
 -- What the writer's steps promise, and an image's length and first bytes.
 use Prim.Native.Nat.{ℕ, ◌+◌, ◌≤◌, ◌<◌}
+use Rattle.std.specs.Prelude.{Ok}
 use mathlib.Core.Path.{◌≡◌, refl, sym, ap, ◌∙◌}
 use mathlib.Core.Bool.{Bool, true, false, not}
 use mathlib.Core.List.{List, [], ◌∷◌, ◌++◌}
 use native.Mathlib.Omega.{arith}
 use borrow.Author.Tests.{lt-ltb, le-ltb, ltb-false, ltb-true, eqb-true, not-false}
-use lib.ListN.{length, set, length-append}
+use lib.ListN.{length, length-append}
 use lib.Dec.{eqb, ltb}
 use Rattle.octets.specs.Over.{over}
 use Rattle.rules.proofs.Laws.Accepted.{first-passed, passed}
 use Rattle.rules.proofs.Laws.Output.{ends-written}
 use Rattle.rules.specs.Listed.{listed}
 use Rattle.rules.specs.Refusal.{bytes, refusal}
-use Rattle.rules.specs.declared.section.Output.TheVariants.{Written}
 use Rattle.queues.specs.Steps.{fixed_size, format_steps, string_step, text_steps, value_steps}
 use Rattle.queues.specs.Write.{image_bytes, write_answer, write_bytes, write_steps}
 use Rattle.queues.specs.declared.format.QueueFormat.{QueueFormat}
@@ -55,16 +55,6 @@ passing f fixed text p =
       text-short = passed-text f.kind text (sym (value-split f.kind fixed text n) ∙ b.1);
     }
 
--- the stores of the first four bytes
-pub head-over : (f : QueueFormat) (out : List ℕ) → 4 ≤ length out
-    → set (set (set (set out 0 f.kind) 1 f.suffix_and_flags) 2 0) 3 0 ≡ over (image_bytes f []) out
-unfolding over image_bytes
-head-over f [] h = absurd (omega arith)
-head-over f (a ∷ []) h = absurd (omega arith)
-head-over f (a ∷ b ∷ []) h = absurd (omega arith)
-head-over f (a ∷ b ∷ c ∷ []) h = absurd (omega arith)
-head-over f (a ∷ b ∷ c ∷ d ∷ rest) h = refl
-
 pub length-image : (f : QueueFormat) (fixed text : List ℕ) → length (image_bytes f (fixed ++ text)) ≡ 4 + length fixed + length text
 unfolding image_bytes
 length-image f fixed text = omega (arith, length-append fixed text)
@@ -72,9 +62,9 @@ length-image f fixed text = omega (arith, length-append fixed text)
 -- a writer whose steps passed and that has room has written
 pub has_room : (f : QueueFormat) (fixed text out later : List ℕ) → write_steps f fixed text ≡ 0
     → 4 + length fixed + length text ≤ length out → later ≡ over (image_bytes f (fixed ++ text)) out
-    → (Written (bytes (4 + length fixed + length text)) ≡ write_answer f fixed text out) × (later ≡ write_bytes f fixed text out)
+    → (Ok (bytes (4 + length fixed + length text)) ≡ write_answer f fixed text out) × (later ≡ write_bytes f fixed text out)
 unfolding write_answer write_bytes
 has_room f fixed text out later none room w =
     let l = length-image f fixed text in
     let end = ends-written (refusal (write_steps f fixed text) 0) (image_bytes f (fixed ++ text)) out none (omega arith) in
-    (ap (λ (n : ℕ). Written (bytes n)) (sym l) ∙ end.0, w ∙ end.1)
+    (ap (λ (n : ℕ). Ok (bytes n)) (sym l) ∙ end.0, w ∙ end.1)

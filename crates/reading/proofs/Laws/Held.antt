@@ -1,17 +1,16 @@
 -- What is judged of the bytes held, by the header whose step fails.
 use Prim.Native.Nat.{ℕ, ◌≤◌}
-use mathlib.Core.Path.{◌≡◌, ap, ◌∙◌}
+use mathlib.Core.Path.{◌≡◌}
 use mathlib.Core.Bool.{Bool, true, false}
 use mathlib.Core.List.{List}
 use native.Mathlib.Omega.{arith}
-use borrow.Author.Tests.{eq-eqb, ltb-false, ne_eqb}
+use borrow.Author.Tests.{ltb-false}
 use lib.Dec.{ltb}
-use Rattle.rules.specs.Place.{header_refusal}
-use Rattle.rules.specs.Refusal.{limit, refusal}
+use Rattle.rules.specs.Refusal.{limit}
 use Rattle.rules.specs.Security.{read_security, security_length, security_steps}
 use Rattle.rules.specs.declared.security.SecurityFields.{SecurityFields}
 use Rattle.rules.proofs.Laws.Accepted.{first-passed, passed}
-use Rattle.reading.specs.Held.{held_base, held_properties_number, held_security_number, held_start}
+use Rattle.reading.specs.Held.{held_security_number, held_start}
 
 -- a header that passed S8 ends within the limit
 pub passed-small : (n : ℕ) (f : SecurityFields) (identity : List ℕ) (text : Bool) → read_security n f identity text ≡ 0 → security_length f ≤ limit
@@ -24,17 +23,3 @@ pub start_small : (n : ℕ) (first : Bool) (head : List ℕ) (text : Bool) → h
 unfolding held_security_number held_start
 start_small n true head text e = passed-small n _ _ text e
 start_small n false head text e = omega arith
-
-module _ (n : ℕ) (first : Bool) (head : List ℕ) (text : Bool) (properties : List ℕ) where
-  -- by S1 to S11
-  pub refused-security : {k : ℕ} → k ≡ held_security_number n first head text → ¬ (k ≡ 0) → refusal k 0 ≡ held_base n first head text properties
-  unfolding held_base header_refusal
-  refused-security e some = rw (← e, ne_eqb _ 0 some)
-
-  -- by P1 to P7, or not at all
-  pub behind-security : held_security_number n first head text ≡ 0 → {k p : ℕ} → p ≡ held_start first head → k ≡ held_properties_number n p properties
-      → refusal k p ≡ held_base n first head text properties
-  unfolding held_base header_refusal
-  behind-security none at e =
-      let number = e ∙ ap (λ (q : ℕ). held_properties_number n q properties) at in
-      rw (eq-eqb _ 0 none) (λ i. refusal (number i) (at i))

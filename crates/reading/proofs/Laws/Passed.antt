@@ -1,8 +1,10 @@
 -- What judging's answer tells; and of an accepted section where the MessagePropertiesHeader begins, its fields and where the section
 -- ends, as the code reads them.
 use Prim.Native.Nat.{ℕ, ◌+◌, ◌≤◌, min}
+use Rattle.octets.specs.declared.count.Bytes.{Bytes}
+use Rattle.std.specs.Prelude.{Err, Ok, Result, is_err}
 use mathlib.Core.Path.{◌≡◌, refl, sym, ap, subst, ◌∙◌}
-use mathlib.Core.Bool.{Bool, true, false}
+use mathlib.Core.Bool.{Bool, true, false, false≢true, true≢false}
 use mathlib.Core.List.{List}
 use native.Mathlib.Omega.{arith}
 use borrow.Author.Tests.{eq-eqb, eqb-false, eqb-true}
@@ -11,36 +13,43 @@ use lib.Dec.{eqb}
 use Rattle.rules.specs.Properties.{properties_length}
 use Rattle.rules.specs.Reading.{base_judge, fields_at, judge, start_at, summarize, summary_at}
 use Rattle.rules.specs.Place.{header_refusal}
-use Rattle.rules.specs.Refusal.{bytes, limit}
+use Rattle.rules.specs.Refusal.{bytes, judged_of, limit}
 use Rattle.rules.specs.Summary.{summary_of}
 use Rattle.rules.specs.declared.properties.PropertiesFields.{PropertiesFields}
+use Rattle.rules.specs.declared.refusal.Failed.{Failed}
 use Rattle.rules.specs.declared.refusal.Refusal.{Refusal}
-use Rattle.rules.specs.declared.section.Summarized.TheVariants.{Refused}
-use Rattle.rules.proofs.Laws.Accepted.{judge-number, judge-passed, section-fits, security-number, summarize-refused}
+use Rattle.rules.proofs.Laws.Accepted.{judge-number, judge-passed, number_passed, section-fits, summarize-refused}
+use Rattle.rules.proofs.Laws.Cause.{not-0}
 use Rattle.reading.specs.Case.{judged_once}
-use Rattle.reading.specs.declared.section.Judged.{Judged}
-use Rattle.reading.specs.declared.section.Judged.TheVariants.{Passed as Judged-as-Passed, Refused as Judged-as-Refused}
 use Rattle.reading.specs.Fields.{properties_read, start_read}
 use Rattle.reading.proofs.Laws.Fields.{accepted}
 
--- a test of the number that judging answered
-module _ (first : Bool) (s : List ℕ) {r : Refusal} (judged : r ≡ base_judge first s) where
-  pub none_told : r.number ≡ 0 → (judge first s).number ≡ 0
-  none_told e = judge-number first s ∙ sym (ap (λ (x : Refusal). x.number) judged) ∙ e
+-- what the steps' answer tells
+abbrev pub Told : Bool → List ℕ → Result Bytes Failed → Type 0
+Told first s (Ok at) = ((judge first s).number ≡ 0) × (at ≡ bytes (start_at first s))
+Told first s (Err f) = ¬ ((judge first s).number ≡ 0)
 
-  pub some-told : ¬ (r.number ≡ 0) → ¬ ((judge first s).number ≡ 0)
-  some-told some e = some (ap (λ (x : Refusal). x.number) judged ∙ sym (judge-number first s) ∙ e)
-
-  -- and the refusal that was then asked for
-  pub refused-told : ¬ (r.number ≡ 0) → {q : Refusal} → q ≡ judge first s → summarize first s ≡ Refused q
-  refused-told some e = summarize-refused first s (some-told some) ∙ ap Refused (sym e)
-
+module _ (first : Bool) (s : List ℕ) where
   -- where no step fails, the place is where the MessagePropertiesHeader begins
-  pub place-told : (judge first s).number ≡ 0 → r.place ≡ bytes (start_at first s)
-  unfolding base_judge header_refusal summary_at summary_of
-  place-told none =
-      let passed = (security-number first s).1 ((judge-passed first s).0 none).security in
-      ap (λ (x : Refusal). x.place) judged ∙ rw (eq-eqb _ 0 passed)
+  place-told : (base_judge first s).number ≡ 0 → (base_judge first s).place ≡ bytes (start_at first s)
+  unfolding base_judge header_refusal
+  place-told e = rw (eq-eqb _ 0 ((number_passed _ _ _).0 e).0)
+
+  pub told : (j : Result Bytes Failed) → judged_of j ≡ base_judge first s → Told first s j
+  unfolding judged_of
+  told (Ok at) e =
+      let none = sym (ap (λ (x : Refusal). x.number) e) in
+      (judge-number first s ∙ none, ap (λ (x : Refusal). x.place) e ∙ place-told none)
+  told (Err f) e = λ none. not-0 f.cause (ap (λ (x : Refusal). x.number) e ∙ sym (judge-number first s) ∙ none)
+
+  -- and a test of it
+  pub ok-told : (j : Result Bytes Failed) → judged_of j ≡ base_judge first s → is_err j ≡ false → (judge first s).number ≡ 0
+  ok-told (Ok at) e ok = (told (Ok at) e).0
+  ok-told (Err f) e ok = absurd (true≢false ok)
+
+  pub err-told : (j : Result Bytes Failed) → judged_of j ≡ base_judge first s → is_err j ≡ true → ¬ ((judge first s).number ≡ 0)
+  err-told (Ok at) e err = absurd (false≢true err)
+  err-told (Err f) e err = told (Err f) e
 
 -- the section ends behind its MessagePropertiesHeader, within the limit and the input
 pub record Ends (first : Bool) (s : List ℕ) (size : ℕ) : Type 0 where
@@ -72,11 +81,11 @@ module _ (first : Bool) (s : List ℕ) (none : (judge first s).number ≡ 0) whe
       omega (arith, e, start-told start, ends.end, ends.small)
 
 -- what judging once tells
-abbrev pub Once : Bool → List ℕ → Judged → Type 0
-Once first s (Judged-as-Passed at) = ((judge first s).number ≡ 0) × (at.0 ≡ start_read first s)
-Once first s (Judged-as-Refused r) = summarize first s ≡ Refused r
+abbrev pub Once : Bool → List ℕ → Result Bytes Refusal → Type 0
+Once first s (Ok at) = ((judge first s).number ≡ 0) × (at.0 ≡ start_read first s)
+Once first s (Err r) = summarize first s ≡ Err r
 
-pub once-told : (first : Bool) (s : List ℕ) {j : Judged} → j ≡ judged_once first s → Once first s j
+pub once-told : (first : Bool) (s : List ℕ) {j : Result Bytes Refusal} → j ≡ judged_once first s → Once first s j
 unfolding judged_once
 once-told first s {j} e = subst (Once first s) (sym e) (go (eqb (judge first s).number 0) refl)
   where

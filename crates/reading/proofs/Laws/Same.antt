@@ -1,5 +1,6 @@
 -- A summary follows from the judged fields: layouts and verdicts are functions of them.
 use Prim.Native.Nat.{ℕ}
+use Rattle.std.specs.Prelude.{Ok}
 use mathlib.Core.Path.{◌≡◌, refl, sym, ap, ap₂, ◌∙◌}
 use mathlib.Core.Bool.{Bool, true, false}
 use mathlib.Core.List.{List}
@@ -9,7 +10,6 @@ use Rattle.rules.specs.Reading.{SameSummary, fields_at, header_at, judge, securi
 use Rattle.rules.specs.Security.{security_parts}
 use Rattle.rules.specs.Summary.{label_of, provider_name_of, summary_of}
 use Rattle.rules.specs.declared.properties.PropertiesFields.{PropertiesFields}
-use Rattle.rules.specs.declared.section.Summarized.TheVariants.{Accepted}
 use Rattle.rules.specs.declared.section.Summary.{Summary}
 use Rattle.rules.specs.declared.security.SecurityHeader.{SecurityHeader}
 use Rattle.rules.proofs.Laws.Accepted.{accepted-at, summarize-passed}
@@ -80,7 +80,7 @@ module _ (first : Bool) (s t : List ℕ) where
       record {
         summary = summary_at first s;
         left = summarize-passed first s l;
-        right = summarize-passed first t r ∙ ap Accepted e;
+        right = summarize-passed first t r ∙ ap Ok e;
         label = c.label ∙ ap (λ (x : Summary). label_of x t) e;
         provider_name = c.provider_name ∙ ap (λ (x : Summary). provider_name_of x t) e;
       }

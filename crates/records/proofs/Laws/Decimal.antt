@@ -4,14 +4,14 @@ use mathlib.Core.Path.{◌≡◌, refl, sym, ap, ◌∙◌}
 use mathlib.Core.Bool.{Bool, true, false}
 use mathlib.Core.List.{List, [], ◌∷◌, ◌++◌}
 use native.Mathlib.Nat.{pow-suc}
-use native.Mathlib.Numerals.{add-one, sub-one}
+use native.Mathlib.Numerals.{sub-one}
 use native.Mathlib.Omega.{arith}
 use borrow.Author.Tests.{lt-ltb, le-ltb, ltb-true, ltb-false}
 use lib.ListN.{length, get_or, take, drop, set, length-append, length-set, take-append-drop}
 use lib.Seq.{length-take-le, take-length, take-suc, take_at, drop-length, drop-cons, get_or_at}
 use lib.Dec.{ltb}
 use Rattle.octets.specs.Over.{over_at}
-use Rattle.octets.proofs.Laws.Over.{over-before, over_none}
+use Rattle.octets.proofs.Laws.Over.{over-before, over_none, over-start, over-whole}
 use Rattle.records.specs.Decimal.{decimal, spelled}
 
 -- more room than digits changes nothing
@@ -65,59 +65,58 @@ unfolding decimal
 length-decimal n h = length-spelled (suc n) 19 n (omega arith)
 
 -- What has been put while the digits are put from the last to the first: all behind the first `left`, which are those of `rest`.
-pub record Putting (n at left rest : ℕ) (out now : List ℕ) : Type 0 where
+pub record Putting (n left rest : ℕ) (out now : List ℕ) : Type 0 where
   pub count : left ≡ length (decimal rest)
   pub within : left ≤ length (decimal n)
   pub front : take left (decimal n) ≡ decimal rest
   pub size : length now ≡ length out
-  pub bytes : now ≡ over_at (at + left) (drop left (decimal n)) out
+  pub bytes : now ≡ over_at left (drop left (decimal n)) out
 
-pub putting-first : (n at count : ℕ) (out : List ℕ) → count ≡ length (decimal n) → Putting n at count n out out
-putting-first n at count out e =
+pub putting-first : (n : ℕ) (out : List ℕ) → length out ≡ length (decimal n) → Putting n (length out) n out out
+putting-first n out e =
     record {
       count = e;
       within = omega arith;
       front = rw (e, take-length);
       size = refl;
-      bytes = rw (e, drop-length) (over_none (at + length (decimal n)) out);
+      bytes = rw (e, drop-length) (over_none (length (decimal n)) out);
     }
 
 -- the last digit of `rest` goes before them
-pub putting-next : {n at left rest : ℕ} {out now : List ℕ} → Putting n at left rest out now → 9 < rest
-    → at + length (decimal n) ≤ length out
-    → Putting n at (left - 1) (rest / 10) out (set now (at + (left - 1)) (48 + rest % 10))
+pub putting-next : {n left rest : ℕ} {out now : List ℕ} → Putting n left rest out now → 9 < rest → length out ≡ length (decimal n)
+    → Putting n (left - 1) (rest / 10) out (set now (left - 1) (48 + rest % 10))
 putting-next {left = zero} {rest = rest} w h room = absurd (omega (arith, w.count, decimal-some rest))
-putting-next {n} {at} {left = suc i} {rest = rest} {out = out} {now = now} w h room =
+putting-next {n} {left = suc i} {rest} {out} {now} w h room =
     let ds = decimal n in
-    let x = get_or ds i 0 in
     let d = 48 + rest % 10 in
-    let some : i < length ds = w.within in
+    let x = get_or ds i 0 in
+    let some : i < length ds = omega (arith, w.within) in
     let li : length (take i ds) ≡ i = length-take-le i ds (omega arith) in
     let lr : length (decimal (rest / 10)) ≡ i = omega (arith, w.count, length_more rest h) in
-    let e : take i ds ++ (x ∷ []) ≡ decimal (rest / 10) ++ (d ∷ []) =
-    sym (take-suc ds i 0 some) ∙ w.front ∙ decimal-more rest h in
+    let e : take i ds ++ (x ∷ []) ≡ decimal (rest / 10) ++ (d ∷ []) = sym (take-suc ds i 0 some) ∙ w.front ∙ decimal-more rest h in
     let digit : x ≡ d =
     sym (get_or_at (take i ds) x [] 0 i li) ∙ ap (λ (l : List ℕ). get_or l i 0) e ∙ get_or_at (decimal (rest / 10)) d [] 0 i lr in
-    let next : suc (at + i) ≡ at + suc i = omega arith in
     rw (sub-one (suc i))
     (record {
       count = sym lr;
       within = omega arith;
       front = sym (take_at (take i ds) (x ∷ []) i li) ∙ ap (take i) e ∙ take_at (decimal (rest / 10)) (d ∷ []) i lr;
-      size = length-set now (at + i) d ∙ w.size;
+      size = length-set now i d ∙ w.size;
       bytes =
-          over-before {now = now} (at + i) (drop (suc i) ds) out d (w.bytes ∙ ap (λ (k : ℕ). over_at k (drop (suc i) ds) out) (sym next)) (omega arith)
-          ∙ ap (λ (l : List ℕ). over_at (at + i) l out) (sym (drop-cons ds i 0 some ∙ ap (λ (y : ℕ). y ∷ drop (suc i) ds) digit));
+          over-before {now = now} i (drop (suc i) ds) out d w.bytes (omega arith)
+          ∙ ap (λ (l : List ℕ). over_at i l out) (sym (drop-cons ds i 0 some ∙ ap (λ (y : ℕ). y ∷ drop (suc i) ds) digit));
     })
 
--- and the first where it begins
-pub putting-last : {n at left rest : ℕ} {out now : List ℕ} → Putting n at left rest out now → rest ≤ 9
-    → at + length (decimal n) ≤ length out → set now at (48 + rest) ≡ over_at at (decimal n) out
-putting-last {n} {at} {left} {rest} {out} w h room =
+-- and the first where only it is left
+pub putting-last : {n left rest : ℕ} {out now : List ℕ} → Putting n left rest out now → rest ≤ 9 → length out ≡ length (decimal n)
+    → set now 0 (48 + rest) ≡ decimal n
+putting-last {n} {left} {rest} {out} w h room =
     let ds = decimal n in
     let one : decimal rest ≡ (48 + rest) ∷ [] = decimal-one rest (omega arith) in
     let n1 : left ≡ 1 = w.count ∙ ap length one in
     let e : take 1 ds ≡ (48 + rest) ∷ [] = ap (λ (k : ℕ). take k ds) (sym n1) ∙ w.front ∙ one in
     let all : (48 + rest) ∷ drop 1 ds ≡ ds = ap (λ (l : List ℕ). l ++ drop 1 ds) (sym e) ∙ take-append-drop 1 ds in
-    over-before at (drop 1 ds) out (48 + rest) (w.bytes ∙ rw (n1, add-one)) (omega (arith, decimal-some n))
-    ∙ ap (λ (l : List ℕ). over_at at l out) all
+    over-before 0 (drop 1 ds) out (48 + rest) (w.bytes ∙ rw n1) (omega (arith, decimal-some n))
+    ∙ ap (λ (l : List ℕ). over_at 0 l out) all
+    ∙ over-start ds out
+    ∙ over-whole ds out (sym room)

@@ -1,5 +1,7 @@
 -- The bytes of a longest record, or all, decide the next record: what stands behind them is not looked at.
 use Prim.Native.Nat.{ℕ, ◌+◌, ◌-◌, ◌≤◌, ◌<◌}
+use Rattle.records.specs.declared.head.Next.TheVariants.{End, Found, Stop}
+use Rattle.records.specs.declared.head.Next.{Next}
 use mathlib.Core.Path.{◌≡◌, refl, sym, ap, ◌∙◌}
 use mathlib.Core.Bool.{Bool, true, false}
 use mathlib.Core.List.{List, ◌++◌}
@@ -13,8 +15,6 @@ use Rattle.records.specs.Enough.{Decided, Decides, is_enough}
 use Rattle.records.specs.Head.{next_head, section_behind, section_size}
 use Rattle.records.specs.Record.{next_record, record_behind}
 use Rattle.records.specs.declared.head.Head.{Head}
-use Rattle.records.specs.declared.head.NextHead.{NextHead}
-use Rattle.records.specs.declared.head.NextHead.TheVariants.{End, Stop, Found}
 use Rattle.records.proofs.Laws.Head.{head-fits}
 
 decided-all : (n : ℕ) (s : List ℕ) → length s ≤ n → Decided n s
@@ -63,7 +63,7 @@ module _ (n : ℕ) (s : List ℕ) (large : 32776 ≤ n) (more : n < length s) wh
   unfolding next_record record_behind
   decided-next = ap (record_behind (take n s)) decided-head ∙ go (next_head s) refl
     where
-      go : (x : NextHead) → next_head s ≡ x → record_behind (take n s) x ≡ record_behind s x
+      go : (x : Next Head) → next_head s ≡ x → record_behind (take n s) x ≡ record_behind s x
       go End e = refl
       go Stop e = refl
       go (Found h) e = rw (section-same h (omega (arith, (head-fits s h e).small)))

@@ -1,11 +1,14 @@
 -- A head that is found stands in what is left of the file with its section, which is not above the longest; and what is written as a head
 -- is read as one.
 use Prim.Native.Nat.{ℕ, ◌+◌, ◌-◌, ◌≤◌}
+use Rattle.records.specs.declared.head.Next.TheVariants.{End, Found, Stop}
+use Rattle.records.specs.declared.head.Next.{Next}
 use mathlib.Core.Path.{◌≡◌, refl, subst, ◌∙◌}
 use mathlib.Core.Bool.{Bool, true, false, not, cond}
 use mathlib.Core.List.{List, ◌++◌}
 use native.Mathlib.Omega.{arith}
 use borrow.Author.Tests.{le-ltb, ltb-false, ne_eqb}
+use mir.Val.{bool_byte}
 use lib.ListN.{length, get_or, take, length-append, get_or-append}
 use lib.Dec.{eqb, ltb}
 use Rattle.octets.specs.Number.{to_le}
@@ -13,20 +16,18 @@ use Rattle.octets.proofs.Laws.Number.{le-append, le-cong, le-to_le, length-to_le
 use Rattle.rules.specs.Refusal.{bytes}
 use Rattle.records.specs.Head.{head_bytes, next_head, section_size}
 use Rattle.records.specs.declared.head.Head.{Head}
-use Rattle.records.specs.declared.head.NextHead.{NextHead}
-use Rattle.records.specs.declared.head.NextHead.TheVariants.{End, Stop, Found}
 
 pub record HeadFits (s : List ℕ) (h : Head) : Type 0 where
   pub small : h.length.0 ≤ 32768
   pub input : 8 + h.length.0 ≤ length s
 
-abbrev Fits : List ℕ → NextHead → Type 0
+abbrev Fits : List ℕ → Next Head → Type 0
 Fits s End = Unit {0}
 Fits s Stop = Unit {0}
 Fits s (Found h) = HeadFits s h
 
 -- a test that answers by itself, or what comes after it
-either : (s : List ℕ) (b : Bool) (x y : NextHead) → Fits s x → (b ≡ false → Fits s y) → Fits s (cond b x y)
+either : (s : List ℕ) (b : Bool) (x y : Next Head) → Fits s x → (b ≡ false → Fits s y) → Fits s (cond b x y)
 either s true x y f g = f
 either s false x y f g = g refl
 
@@ -57,6 +58,11 @@ size-read h rest small =
     le-append 4 (take 4 (head_bytes h)) (to_le 4 n ++ rest) 0 4 refl
     ∙ le-cong 4 (to_le 4 n ++ rest) (to_le 4 n) 0 0 (λ i l. get_or-append (to_le 4 n) rest 0 (0 + i) (omega (arith, length-to_le 4 n)))
     ∙ le-to_le 4 n (omega arith)
+
+-- whether a SecurityHeader stands first, as a byte
+pub first_byte : (first : Bool) → bool_byte first ≡ cond first 1 0
+first_byte true = refl
+first_byte false = refl
 
 pub length-head : (h : Head) → length (head_bytes h) ≡ 8
 unfolding head_bytes to_le

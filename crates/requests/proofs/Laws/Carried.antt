@@ -1,5 +1,6 @@
 -- What the properties of a section hold of the values of a request: privacy mapped back, the sender's marks, the title's units.
 use Prim.Native.Nat.{ℕ, zero, suc, ◌-◌, ◌/◌, ◌≤◌}
+use Rattle.std.specs.Prelude.{Some}
 use mathlib.Core.Path.{◌≡◌, refl, sym, ap, ◌∙◌}
 use mathlib.Core.Bool.{Bool, true, false, cond}
 use mathlib.Core.List.{List, [], ◌∷◌}
@@ -11,7 +12,6 @@ use Rattle.rules.specs.declared.security.SecurityFields.{SecurityFields}
 use Rattle.requests.specs.Carried.{request_privacy, section_sender}
 use Rattle.requests.specs.Section.{label_with, packet_level, packet_privacy}
 use Rattle.requests.specs.declared.properties.Privacy.TheVariants.{Packet, Request}
-use Rattle.requests.specs.declared.properties.Sender.TheVariants.{Known}
 use Rattle.requests.specs.declared.properties.SenderValues.{SenderValues}
 use Rattle.requests.proofs.Laws.Flags.{FlagBits}
 use Rattle.requests.proofs.Laws.Text.{label-none, label-some}
@@ -41,11 +41,11 @@ mark-told true = refl
 mark-told false = refl
 
 pub sender-back : (s : SenderValues) (f : SecurityFields) → FlagBits s.kind s.encryption s.default_provider f.flags
-    → section_sender true f ≡ Known s
+    → section_sender true f ≡ Some s
 unfolding section_sender
 sender-back s f bits =
     λ i.
-    Known
+    Some
     (record {
       kind = bits.ST i;
       default_provider = (ap (λ (n : ℕ). eqb n 1) bits.DE ∙ mark-told s.default_provider) i;

@@ -1,5 +1,6 @@
 -- What a legal request has passed, step by step, and the bounds that follow.
 use Prim.Native.Nat.{ℕ, ◌≤◌, ◌<◌}
+use Rattle.std.specs.Prelude.{Err, Ok, Result, ⊤}
 use mathlib.Core.Path.{◌≡◌, refl, sym, ◌∙◌}
 use mathlib.Core.Bool.{Bool, true, false, not, ◌||◌, cond, true≢false}
 use mathlib.Core.List.{List, [], ◌∷◌}
@@ -10,7 +11,6 @@ use lib.Dec.{eqb, ltb}
 use Rattle.rules.specs.Listed.{classes, listed}
 use Rattle.rules.specs.Refusal.{limit}
 use Rattle.rules.specs.Security.{identity_head, identity_size}
-use Rattle.rules.specs.declared.refusal.Checked.TheVariants.{Passed, Refused}
 use Rattle.rules.specs.declared.refusal.Refusal.{Refusal}
 use Rattle.rules.proofs.Laws.Accepted.{neither}
 use Rattle.rules.proofs.Laws.Listed.{no-class}
@@ -21,7 +21,7 @@ use Rattle.requests.specs.Steps.{allocation_fails, identity_fails, identity_fiel
 use Rattle.requests.specs.Steps.{first_failure, from25, request_steps, steps, up_to24}
 
 -- a refusal is no passing
-refused≢ : {r : Refusal} → ¬ (Refused r ≡ Passed)
+refused≢ : {r : Refusal} → ¬ (◌≡◌ {A = Result ⊤ Refusal} (Err r) (Ok tt))
 refused≢ e = let z : ◌≡◌ {A = ℕ} 0 1 = cc in omega arith
 
 -- a step that passed: its test is false, and the answer is that of the steps after it
@@ -34,7 +34,7 @@ abbrev AllPass : List (Bool × ℕ) → Type 0
 AllPass [] = Unit {0}
 AllPass (s ∷ ss) = (s.0 ≡ false) × AllPass ss
 
-all-passed : (ss : List (Bool × ℕ)) → first_failure ss ≡ Passed → AllPass ss
+all-passed : (ss : List (Bool × ℕ)) → first_failure ss ≡ (Ok tt) → AllPass ss
 unfolding first_failure
 all-passed [] e = tt
 all-passed (s ∷ ss) e = let p = passed s.0 refused≢ e in (p.0, all-passed ss p.1)
@@ -52,7 +52,7 @@ pub record RequestPassed (q : SendRequest) : Type 0 where
   pub allocation : allocation_fails q.values q.body ≡ false
   pub small : section_length q ≤ limit
 
-pub request-passed : (q : SendRequest) → request_steps q ≡ Passed → RequestPassed q
+pub request-passed : (q : SendRequest) → request_steps q ≡ (Ok tt) → RequestPassed q
 unfolding request_steps steps up_to24 from25
 request-passed q e =
     let p = all-passed (steps q) e in

@@ -1,12 +1,13 @@
 -- Without a SecurityHeader the parts that only it carries are empty.
-use Prim.Native.Nat.{ℕ, suc}
+use Prim.Native.Nat.{ℕ}
 use mathlib.Core.Path.{◌≡◌, refl, ap}
 use mathlib.Core.Bool.{Bool, true, false, not, ◌&&◌, cond, and-eq-true_iff}
-use mathlib.Core.List.{List, [], ◌∷◌}
+use mathlib.Core.List.{List, []}
 use native.Mathlib.Omega.{arith}
 use borrow.Author.Tests.{eqb-true, not-false}
 use lib.ListN.{length}
 use lib.Dec.{eqb}
+use Rattle.std.proofs.lemmas.List.{nil_from_length}
 use Rattle.requests.specs.Defaults.{signature_of}
 use Rattle.requests.specs.Request.{SendRequest}
 use Rattle.requests.specs.Section.{first, provider_info, security_first, signed}
@@ -15,8 +16,7 @@ use Rattle.requests.proofs.Laws.Provider.{type_and_name}
 use Rattle.requests.proofs.Laws.Signature.{signature-some}
 
 empty : (xs : List ℕ) → eqb (length xs) 0 ≡ true → xs ≡ []
-empty [] e = refl
-empty (x ∷ xs) e = absurd (omega (arith, eqb-true (suc (length xs)) 0 e))
+empty xs e = nil_from_length xs (eqb-true (length xs) 0 e)
 
 pub record NoParts (q : SendRequest) : Type 0 where
   pub sender_id : q.sender_id ≡ []

@@ -1,5 +1,6 @@
 -- What an accepted input has passed, and that an input which passed it is accepted.
 use Prim.Native.Nat.{ℕ, suc, ◌+◌, ◌%◌, ◌≤◌}
+use Rattle.std.specs.Prelude.{Err, Ok}
 use mathlib.Core.Path.{◌≡◌, refl, sym, ap, subst, ◌∙◌}
 use mathlib.Core.Logic.{◌↔◌}
 use mathlib.Core.Bool.{Bool, true, false, not, ◌&&◌, ◌||◌, cond, and-eq-true_iff, true≢false}
@@ -20,7 +21,6 @@ use Rattle.rules.specs.Security.{read_security, security_contents, security_fiel
 use Rattle.rules.specs.Summary.{part_of, no_security, summary_of, label_of, properties_at}
 use Rattle.rules.specs.declared.properties.PropertiesFields.{PropertiesFields}
 use Rattle.rules.specs.declared.properties.PropertiesParts.{PropertiesParts}
-use Rattle.rules.specs.declared.section.Summarized.TheVariants.{Accepted, Refused}
 use Rattle.rules.specs.declared.section.Summary.{Summary}
 use Rattle.rules.specs.declared.security.SecurityFields.{SecurityFields}
 use Rattle.rules.specs.declared.security.SecurityHeader.{SecurityHeader}
@@ -291,33 +291,33 @@ judge-passed first s =
     )
 
 -- an accepted input's summary is made from its bytes alone
-pub accepted-at : (first : Bool) (s : List ℕ) (m : Summary) → summarize first s ≡ Accepted m
+pub accepted-at : (first : Bool) (s : List ℕ) (m : Summary) → summarize first s ≡ Ok m
     → ((judge first s).number ≡ 0) × (m ≡ summary_at first s)
 unfolding summarize
 accepted-at first s m e = go (eqb (judge first s).number 0) refl e
   where
-    go : (b : Bool) → eqb (judge first s).number 0 ≡ b → cond b (Accepted (summary_at first s)) (Refused (judge first s)) ≡ Accepted m
+    go : (b : Bool) → eqb (judge first s).number 0 ≡ b → cond b (Ok (summary_at first s)) (Err (judge first s)) ≡ Ok m
         → ((judge first s).number ≡ 0) × (m ≡ summary_at first s)
     go true f e = (eqb-true (judge first s).number 0 f, cc)
     go false f e = let z : ◌≡◌ {A = ℕ} 0 1 = cc in absurd (some 0 (sym z))
 
 -- where no step fails
-pub summarize-passed : (first : Bool) (s : List ℕ) → (judge first s).number ≡ 0 → summarize first s ≡ Accepted (summary_at first s)
+pub summarize-passed : (first : Bool) (s : List ℕ) → (judge first s).number ≡ 0 → summarize first s ≡ Ok (summary_at first s)
 unfolding summarize
 summarize-passed first s e = rw (eq-eqb (judge first s).number 0 e)
 
 -- and where one does
-pub summarize-refused : (first : Bool) (s : List ℕ) → ¬ ((judge first s).number ≡ 0) → summarize first s ≡ Refused (judge first s)
+pub summarize-refused : (first : Bool) (s : List ℕ) → ¬ ((judge first s).number ≡ 0) → summarize first s ≡ Err (judge first s)
 unfolding summarize
 summarize-refused first s e = rw (ne_eqb (judge first s).number 0 e)
 
 -- an input is accepted exactly where it has passed
-pub section-passed : (first : Bool) (s : List ℕ) (m : Summary) → (summarize first s ≡ Accepted m) ↔ SectionPassed first s m
+pub section-passed : (first : Bool) (s : List ℕ) (m : Summary) → (summarize first s ≡ Ok m) ↔ SectionPassed first s m
 section-passed first s m = (
   λ e.
       let a = accepted-at first s m e in
       subst (SectionPassed first s) (sym a.1) ((judge-passed first s).0 a.0),
   λ a.
       let at = summary-at first s m a in
-      summarize-passed first s ((judge-passed first s).1 (subst (SectionPassed first s) at a)) ∙ ap Accepted (sym at),
+      summarize-passed first s ((judge-passed first s).1 (subst (SectionPassed first s) at a)) ∙ ap Ok (sym at),
 )

@@ -5,7 +5,7 @@ pub returns : goal.returns
 returns c =
     let w = c.send-output.ensures in
     let first = c.security_first-first.ensures in
-    let request = c.request_of-given.ensures in
+    let request = c.from.ensures in
     record {
       value = simp (← request, ← first, ← w.value) c.sent_answer.ensures;
       out_after = simp (← request) w.out_after;

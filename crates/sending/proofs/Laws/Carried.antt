@@ -1,5 +1,6 @@
 -- What is read from the section of a legal request.
 use Prim.Native.Nat.{ℕ, ◌-◌, ◌<◌}
+use Rattle.std.specs.Prelude.{None, Some}
 use mathlib.Core.Path.{◌≡◌, refl, sym, ap, subst, ◌∙◌}
 use mathlib.Core.Bool.{Bool, true, false, cond, true≢false}
 use mathlib.Core.List.{List, [], ◌∷◌, ◌++◌}
@@ -33,10 +34,7 @@ use Rattle.requests.specs.Defaults.{privacy, properties, properties_of, provider
 use Rattle.requests.specs.Request.{SendRequest}
 use Rattle.requests.specs.Section.{first, label_with, properties_at as start_at, properties_fields_of, section_length, security_fields_of}
 use Rattle.requests.specs.Section.{info_written, provider_info}
-use Rattle.requests.specs.declared.properties.Handling.TheVariants.{NotKnown as Handling-as-NotKnown}
 use Rattle.requests.specs.declared.properties.Properties.{Properties}
-use Rattle.requests.specs.declared.properties.ProviderType.TheVariants.{Known as ProviderType-as-Known, NotKnown as ProviderType-as-NotKnown}
-use Rattle.requests.specs.declared.properties.Sender.TheVariants.{NotKnown}
 use Rattle.requests.specs.declared.request.Request.{Request}
 use Rattle.requests.proofs.Laws.Carried.{privacy-back, sender-back, title-back}
 use Rattle.requests.proofs.Laws.Flags.{security_flags-bits}
@@ -51,7 +49,7 @@ use Rattle.sending.proofs.Laws.Send.{Gets}
 
 -- the header that is read, by the request
 record HeaderBack (q : SendRequest) (s : List ℕ) (h : SecurityHeader) : Type 0 where
-  sender : section_sender (first q) h.fields ≡ cond (first q) (sender_of q.values q.encryption_key) NotKnown
+  sender : section_sender (first q) h.fields ≡ cond (first q) (sender_of q.values q.encryption_key) None
   signature_size : h.fields.signature_size ≡ bytes (length (signature_of q.values q.signature))
   info_size : h.fields.provider_info_size ≡ bytes (length (provider_info q.values q.signature q.provider_name))
   sender_id : part_of s h.parts.sender_id ≡ q.sender_id
@@ -62,12 +60,12 @@ record HeaderBack (q : SendRequest) (s : List ℕ) (h : SecurityHeader) : Type 0
   provider_type : first q ≡ true → h.provider_type ≡ le 4 (provider_info q.values q.signature q.provider_name) 0
   length : h.parts.length.0 ≡ start_at q
 
-header-back : (q : SendRequest) (id s : List ℕ) (r : Section) (secured : Bool) → RequestPassed q → ReadsBack (given_by q id) s r
+header-back : (q : SendRequest) (s : List ℕ) (r : Section) (secured : Bool) → RequestPassed q → ReadsBack (given_by q) s r
     → first q ≡ secured → HeaderPassed secured s r.summary.security → HeaderBack q s r.summary.security
 unfolding given_by values_of start_at security_header no_security security_fields_of sender_of section_sender
-header-back q id s r true a b e p =
+header-back q s r true a b e p =
     let h = r.summary.security in
-    let fields : h.fields ≡ security_fields_of q = b.security e ∙ security_given-by q id a in
+    let fields : h.fields ≡ security_fields_of q = b.security e ∙ security_given-by q a in
     let start : security_length (security_fields_of q) ≡ start_at q = rw e in
     let values = sender_values q.values q.encryption_key in
     let sender = sender-back values (security_fields_of q) (security_flags-bits values (identity-fits q a).kind) in
@@ -85,7 +83,7 @@ header-back q id s r true a b e p =
           λ f. ap (λ (x : SecurityHeader). x.provider_type) p.header
           ∙ ap (λ (info : List ℕ). le 4 info 0) (b.provider_info e);
     }
-header-back q id s r false a b e p =
+header-back q s r false a b e p =
     let none = no-security q a e in
     let plain : HeaderBack q s no_security = record {
       length = rw e;
@@ -135,51 +133,51 @@ first-written q a e = go (first q) refl
 provider-back : (q : SendRequest) (s : List ℕ) (h : SecurityHeader) (b : Bool) → info_written q.values q.signature ≡ b
     → provider_type q.values < 4294967296 → RequestPassed q → HeaderBack q s h
     → section_provider_type h.fields.provider_info_size h.provider_type
-    ≡ cond b (ProviderType-as-Known (provider_type q.values)) ProviderType-as-NotKnown
+    ≡ cond b (Some (provider_type q.values)) None
 unfolding section_provider_type provider_info
 provider-back q s h true e small a header =
     let size = ap (λ (n : Bytes). n.0) header.info_size in
     let some : ¬ (h.fields.provider_info_size.0 ≡ 0) =
     λ none. info-some q.values q.signature q.provider_name e (sym size ∙ none) in
     let type = header.provider_type (first-written q a e) ∙ type-back q.values q.signature q.provider_name small e in
-    rw (ne_eqb h.fields.provider_info_size.0 0 some) (ap ProviderType-as-Known type)
+    rw (ne_eqb h.fields.provider_info_size.0 0 some) (ap Some type)
 provider-back q s h false e small a header = rw (header.info_size, e)
 
 -- the fields that are read, by the request
-pub record FieldsBack (q : SendRequest) (id s : List ℕ) (r : Section) : Type 0 where
-  pub written : ReadsBack (given_by q id) s r
+pub record FieldsBack (q : SendRequest) (s : List ℕ) (r : Section) : Type 0 where
+  pub written : ReadsBack (given_by q) s r
   pub passed : SectionPassed (first q) s r.summary
   pub properties : r.summary.properties ≡ properties_fields_of q
   pub security : first q ≡ true → r.summary.security.fields ≡ security_fields_of q
 
-pub fields_back : (q : SendRequest) (id rest : List ℕ) → Typed q id → RequestPassed q
-    → (r : Section) × FieldsBack q id (section_bytes (given_by q id) ++ rest) r
+pub fields_back : (q : SendRequest) (rest : List ℕ) → Typed q → RequestPassed q
+    → (r : Section) × FieldsBack q (section_bytes (given_by q) ++ rest) r
 unfolding given_by values_of read
-fields_back q id rest t a =
-    let placed = request-placed q id t.title t.provider_name a in
-    let back = section-back (given_by q id) rest (well_formed-by q id t a) placed.passed in
-    let s = section_bytes (given_by q id) ++ rest in
+fields_back q rest t a =
+    let placed = request-placed q t.title t.provider_name a in
+    let back = section-back (given_by q) rest (well_formed-by q t a) placed.passed in
+    let s = section_bytes (given_by q) ++ rest in
     let b = back.1 in (
       back.0,
       record {
         written = b;
         passed = (section-passed (first q) s back.0.summary).0 (read-accepted s (summarize (first q) s) back.0 b.reads).0;
-        properties = b.properties ∙ properties_given-by q id a;
-        security = λ e. b.security e ∙ security_given-by q id a;
+        properties = b.properties ∙ properties_given-by q a;
+        security = λ e. b.security e ∙ security_given-by q a;
       },
     )
 
 -- the properties of the section that is read, by those of the request
-properties-back : (q : SendRequest) (id s : List ℕ) (r : Section) → Typed q id → RequestPassed q → FieldsBack q id s r
+properties-back : (q : SendRequest) (s : List ℕ) (r : Section) → Typed q → RequestPassed q → FieldsBack q s r
     → HeaderBack q s r.summary.security
     → section_properties r ≡ carried (first q) (info_written q.values q.signature) (properties q)
 unfolding section_properties carried properties_of properties_fields_of summary_of given_by values_of
-properties-back q id s r t a b header =
+properties-back q s r t a b header =
     let f = b.properties in
     let secured = ap (λ (m : Summary). m.security_first) b.passed.properties.summary in
     λ i.
     record {
-      handling = Handling-as-NotKnown;
+      handling = None;
       sender = (ap (λ (x : Bool). section_sender x r.summary.security.fields) secured ∙ header.sender) i;
       provider_type = provider-back q s r.summary.security (info_written q.values q.signature) refl t.provider_type a header i;
       message_class = (f i).message_class;
@@ -196,22 +194,22 @@ properties-back q id s r t a b header =
     }
 
 -- of the properties as they are made
-made-back : (q : SendRequest) (id rest : List ℕ) → Typed q id → Gets q (properties q)
-    → (r : Section) × Carries q (properties q) id (section_bytes (given_by q id) ++ rest) r
+made-back : (q : SendRequest) (rest : List ℕ) → Typed q → Gets q (properties q)
+    → (r : Section) × Carries q (properties q) (section_bytes (given_by q) ++ rest) r
 unfolding given_by values_of properties_of label_of provider_name_of security_fields_of
-made-back q id rest t g =
+made-back q rest t g =
     let a = g.legal in
-    let back = fields_back q id rest t a in
-    let s = section_bytes (given_by q id) ++ rest in
+    let back = fields_back q rest t a in
+    let s = section_bytes (given_by q) ++ rest in
     let r = back.0 in
     let b = back.1.written in
-    let header = header-back q id s r (first q) a b refl back.1.passed.security in
+    let header = header-back q s r (first q) a b refl back.1.passed.security in
     let bits = security_flags-bits (sender_values q.values q.encryption_key) (identity-fits q a).kind in (
       r,
       record {
         reads = b.reads;
         length = length_back q s r.summary back.1.properties header.length back.1.passed;
-        properties = properties-back q id s r t a back.1 header;
+        properties = properties-back q s r t a back.1 header;
         correlation = b.correlation;
         title = b.label ∙ ap label_with (sym g.title);
         extension = b.extension;
@@ -227,8 +225,8 @@ made-back q id rest t g =
     )
 
 -- and as they are answered
-pub read_back : (q : SendRequest) (p : Properties) (id rest : List ℕ) → Typed q id → Gets q p
-    → (r : Section) × Carries q p id (section_bytes (given_by q id) ++ rest) r
-read_back q p id rest t g =
-    let c = made-back q id rest t (subst (Gets q) g.made g) in
-    (c.0, subst (λ (x : Properties). Carries q x id (section_bytes (given_by q id) ++ rest) c.0) (sym g.made) c.1)
+pub read_back : (q : SendRequest) (p : Properties) (rest : List ℕ) → Typed q → Gets q p
+    → (r : Section) × Carries q p (section_bytes (given_by q) ++ rest) r
+read_back q p rest t g =
+    let c = made-back q rest t (subst (Gets q) g.made g) in
+    (c.0, subst (λ (x : Properties). Carries q x (section_bytes (given_by q) ++ rest) c.0) (sym g.made) c.1)

@@ -1,11 +1,12 @@
 -- C-21: what is read from the section of a legal request is not retired.
 use Prim.Native.Nat.{ℕ}
+use Rattle.std.specs.Prelude.{Ok, Result}
 use mathlib.Core.Path.{◌≡◌, refl, sym, ap, subst, ◌∙◌}
 use mathlib.Core.Bool.{Bool, true, false}
 use mathlib.Core.List.{List, ◌++◌}
 use Rattle.rules.specs.Reading.{read}
 use Rattle.rules.specs.Summary.{retired, summary_of, verdicts_of}
-use Rattle.rules.specs.declared.section.Reading.TheVariants.{Accepted}
+use Rattle.rules.specs.declared.refusal.Refusal.{Refusal}
 use Rattle.rules.specs.declared.section.Section.{Section}
 use Rattle.rules.specs.declared.section.Summary.{Summary}
 use Rattle.rules.specs.declared.security.SecurityHeader.{SecurityHeader}
@@ -32,21 +33,21 @@ header-clear : (q : SendRequest) (s : List ℕ) (h : SecurityHeader) (b : Bool) 
 header-clear q s h true a p fields = rw (fields refl) (secured q a)
 header-clear q s h false a p fields = rw p (unsecured q a)
 
-back-clear : (q : SendRequest) (id s : List ℕ) (r : Section) → RequestPassed q → FieldsBack q id s r → r.summary.retired ≡ false
-back-clear q id s r a b =
+back-clear : (q : SendRequest) (s : List ℕ) (r : Section) → RequestPassed q → FieldsBack q s r → r.summary.retired ≡ false
+back-clear q s r a b =
     let m = r.summary in
     verdict-read (first q) s m b.passed.properties
     ∙ ap (retired m.security.fields) b.properties
     ∙ header-clear q s m.security (first q) a b.passed.security b.security
 
-pub read-clear : (q : SendRequest) (id rest : List ℕ) (r : Section) → Typed q id → RequestPassed q
-    → read (first q) (section_bytes (given_by q id) ++ rest) ≡ Accepted r → r.summary.retired ≡ false
+pub read-clear : (q : SendRequest) (rest : List ℕ) (r : Section) → Typed q → RequestPassed q
+    → read (first q) (section_bytes (given_by q) ++ rest) ≡ Ok r → r.summary.retired ≡ false
 unfolding given_by values_of
-read-clear q id rest r t a e =
-    let back = fields_back q id rest t a in
+read-clear q rest r t a e =
+    let back = fields_back q rest t a in
     let same : back.0 ≡ r = inside (sym back.1.written.reads ∙ e) in
     subst (λ (x : Section). x.summary.retired ≡ false) same
-    (back-clear q id (section_bytes (given_by q id) ++ rest) back.0 a back.1)
+    (back-clear q (section_bytes (given_by q) ++ rest) back.0 a back.1)
   where
-    inside : {a b : Section} → Accepted a ≡ Accepted b → a ≡ b
+    inside : {a b : Section} → ◌≡◌ {A = Result Section Refusal} (Ok a) (Ok b) → a ≡ b
     inside e = cc

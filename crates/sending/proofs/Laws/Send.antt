@@ -1,5 +1,8 @@
 -- What the sender gives the section writer, out of a request and its defaulted properties, and what it answers.
 use Prim.Native.Nat.{ℕ, ◌-◌, ◌≤◌, ◌<◌}
+use Rattle.octets.specs.declared.count.Bytes.{Bytes}
+use Rattle.rules.specs.declared.refusal.Refusal.{Refusal}
+use Rattle.std.specs.Prelude.{Err, None, Ok, Option, Result, Some, ⊤}
 use mathlib.Core.Path.{◌≡◌, refl, sym, ap, subst, ◌∙◌}
 use mathlib.Core.Bool.{Bool}
 use mathlib.Core.List.{List}
@@ -9,20 +12,14 @@ use lib.ListN.{length, get_or, take, drop}
 use lib.Seq.{length-take-le, take_at, take-length}
 use Rattle.octets.specs.Over.{over}
 use Rattle.rules.specs.Output.{writer_answer, writer_output}
-use Rattle.rules.specs.declared.refusal.Checked.{Checked}
-use Rattle.rules.specs.declared.refusal.Checked.TheVariants.{Passed, Refused}
-use Rattle.rules.specs.declared.section.Output.{Output}
-use Rattle.writing.specs.Given.{given}
+use Rattle.writing.specs.Given.{Given}
 use Rattle.writing.specs.Writing.{section_bytes, write_answer, write_bytes, write_refusal}
 use Rattle.writing.specs.declared.values.SectionValues.{SectionValues}
 use Rattle.requests.specs.Defaults.{body_of, body_or, class, correlation_of, count, properties, properties_of, sender_of, signature_of, title_of}
 use Rattle.requests.specs.Request.{SendRequest}
 use Rattle.requests.specs.Section.{first, label, label_with, provider_info}
 use Rattle.requests.specs.Steps.{answer_of, defaulted, request_steps}
-use Rattle.requests.specs.declared.properties.Defaulted.TheVariants.{Properties as Defaulted-as-Properties}
 use Rattle.requests.specs.declared.properties.Properties.{Properties}
-use Rattle.requests.specs.declared.request.Body.{Body}
-use Rattle.requests.specs.declared.request.Body.TheVariants.{Absent, Given}
 use Rattle.requests.specs.declared.request.Request.{Request}
 use Rattle.requests.proofs.Laws.Legal.{RequestPassed, acknowledge-small, class-small, identity-fits, request-passed}
 use Rattle.requests.proofs.Laws.Signature.{length-signature}
@@ -44,20 +41,20 @@ last-kept v s =
     ap (λ (n : ℕ). drop n s) start
 
 -- a body that is given is all of it, and one that is absent nothing of it
-body-first : (s : List ℕ) (b : Body) → take (length (body_or s b)) s ≡ body_or s b
+body-first : (s : List ℕ) (b : Option Bytes) → take (length (body_or s b)) s ≡ body_or s b
 unfolding body_or
-body-first s Absent = refl
-body-first s (Given allocation) = take-length s
+body-first s None = refl
+body-first s (Some allocation) = take-length s
 
-body-within : (s : List ℕ) (b : Body) → length (body_or s b) ≤ length s
+body-within : (s : List ℕ) (b : Option Bytes) → length (body_or s b) ≤ length s
 unfolding body_or
-body-within s Absent = omega arith
-body-within s (Given allocation) = omega arith
+body-within s None = omega arith
+body-within s (Some allocation) = omega arith
 
 -- properties p that a request q gets: q is legal, p keeps of its title, signature and body what the definitions cut, and its values
 -- fit their fields
 pub record Gets (q : SendRequest) (p : Properties) : Type 0 where
-  pub answered : defaulted q ≡ Defaulted-as-Properties p
+  pub answered : defaulted q ≡ Ok p
   pub legal : RequestPassed q
   pub made : p ≡ properties q
   pub title : take p.title.0 q.title ≡ title_of q.title
@@ -72,8 +69,8 @@ pub record Gets (q : SendRequest) (p : Properties) : Type 0 where
   pub acknowledge : p.acknowledge < 256
   pub class : p.message_class < 65536
 
-made-gets : (q : SendRequest) → defaulted q ≡ Defaulted-as-Properties (properties q) → RequestPassed q → Gets q (properties q)
-unfolding properties_of sender_of sender_or
+made-gets : (q : SendRequest) → defaulted q ≡ Ok (properties q) → RequestPassed q → Gets q (properties q)
+unfolding properties_of sender_of
 made-gets q e a =
     let given = q.values.body in
     record {
@@ -93,35 +90,49 @@ made-gets q e a =
       class = class-small (class q.values) a.class;
     }
 
-pub gets : (q : SendRequest) (p : Properties) → defaulted q ≡ Defaulted-as-Properties p → Gets q p
+pub gets : (q : SendRequest) (p : Properties) → defaulted q ≡ Ok p → Gets q p
 unfolding defaulted answer_of
 gets q p e = go (request_steps q) refl e
   where
-    go : (c : Checked) → request_steps q ≡ c → answer_of (properties q) c ≡ Defaulted-as-Properties p → Gets q p
-    go Passed f e = let same : properties q ≡ p = cc in subst (Gets q) same (made-gets q (rw f) (request-passed q f))
-    go (Refused r) f e = let z : ◌≡◌ {A = ℕ} 0 1 = cc in absurd (omega arith)
+    go : (c : Result ⊤ Refusal) → request_steps q ≡ c → answer_of (properties q) c ≡ Ok p → Gets q p
+    go (Ok tt) f e = let same : properties q ≡ p = cc in subst (Gets q) same (made-gets q (rw f) (request-passed q f))
+    go (Err r) f e = let z : ◌≡◌ {A = ℕ} 0 1 = cc in absurd (omega arith)
+
+-- the parts that are made for a request, with those that are given
+abbrev pub given : SectionValues → SendRequest → List ℕ → List ℕ → List ℕ → List ℕ → Given
+given values q signature info label body =
+    record {
+      values = values;
+      sender_id = q.sender_id;
+      encryption_key = q.encryption_key;
+      signature = signature;
+      sender_cert = q.sender_cert;
+      provider_info = info;
+      label = label;
+      extension = q.extension;
+      body = body;
+    }
 
 -- what is given to the section writer
-pub given_made : (q : SendRequest) (p : Properties) (b : Bool) (id : List ℕ) {values : SectionValues} {made s l body : List ℕ}
-    → p ≡ properties q → b ≡ first q → made ≡ correlation_of q.values id → values ≡ values_of p b made
+pub given_made : (q : SendRequest) (p : Properties) (b : Bool) {values : SectionValues} {made s l body : List ℕ}
+    → p ≡ properties q → b ≡ first q → made ≡ correlation_of q.values → values ≡ values_of p b made
     → s ≡ signature_of q.values q.signature → l ≡ label q.title → body ≡ body_of q.values q.body
-    → given values q.sender_id q.encryption_key s q.sender_cert
-    (provider_info q.values q.signature q.provider_name) l q.extension body ≡ given_by q id
+    → given values q s (provider_info q.values q.signature q.provider_name) l body ≡ given_by q
 unfolding given_by
-given_made q p b id ep eb ei ev es el ebody =
+given_made q p b ep eb ei ev es el ebody =
     λ i.
-    given ((ev ∙ λ j. values_of (ep j) (eb j) (ei j)) i) q.sender_id q.encryption_key (es i) q.sender_cert
-    (provider_info q.values q.signature q.provider_name) (el i) q.extension (ebody i)
+    given ((ev ∙ λ j. values_of (ep j) (eb j) (ei j)) i) q (es i)
+    (provider_info q.values q.signature q.provider_name) (el i) (ebody i)
 
 -- the section writer can only refuse for the output
-abbrev pub Sent : SendRequest → List ℕ → List ℕ → Type 0
-Sent q id out = (write_answer (given_by q id) out ≡ send_answer q out) × (write_bytes (given_by q id) out ≡ send_bytes q id out)
+abbrev pub Sent : SendRequest → List ℕ → Type 0
+Sent q out = (write_answer (given_by q) out ≡ send_answer q out) × (write_bytes (given_by q) out ≡ send_bytes q out)
 
-pub legal-sent : (q : SendRequest) (p : Properties) (id out : List ℕ) → ((i : ℕ) → get_or q.title i 0 < 65536)
-    → ((i : ℕ) → get_or q.provider_name i 0 < 65536) → Gets q p → Sent q id out
+pub legal-sent : (q : SendRequest) (p : Properties) (out : List ℕ) → ((i : ℕ) → get_or q.title i 0 < 65536)
+    → ((i : ℕ) → get_or q.provider_name i 0 < 65536) → Gets q p → Sent q out
 unfolding write_answer write_bytes writer_answer send_answer answer_after send_bytes
-legal-sent q p id out units name g =
-    let placed = request-placed q id units name g.legal in
-    let none = eq-eqb (write_refusal (given_by q id)).number 0 placed.passed in
-    let answer : write_answer (given_by q id) out ≡ send_answer q out = rw (none, placed.length, g.answered) in
-    (answer, ap (λ (a : Output). writer_output a (section_bytes (given_by q id)) out) answer)
+legal-sent q p out units name g =
+    let placed = request-placed q units name g.legal in
+    let none = eq-eqb (write_refusal (given_by q)).number 0 placed.passed in
+    let answer : write_answer (given_by q) out ≡ send_answer q out = rw (none, placed.length, g.answered) in
+    (answer, ap (λ (a : Result Bytes Refusal). writer_output a (section_bytes (given_by q)) out) answer)

@@ -2,11 +2,9 @@
 use Rattle.std.proofs.Common.{◌≡◌, ℕ, ◌+◌, ◌-◌, ◌≤◌, List, ◌++◌, None, Some, arith, length, take, drop, sym, ap, ◌∙◌, append_assoc}
 use Rattle.std.specs.declared.option.Option.{Option}
 use borrow.Rule.Slice.PartMut.{put_mid, post_of}
-use lib.ListN.{length-drop, length-take}
+use lib.ListN.{length-drop}
 use lib.Seq.{drop_at, length-take-le, take-add, take-append-add, take-append-le, take_all}
 use Rattle.std.specs.Io.KnownBytes.{Appends, Consumes}
-use Rattle.octets.specs.Over.{copied}
-use Rattle.octets.proofs.Laws.Over.{copied-whole}
 
 pub appends-then : (a b c : Option (List ℕ)) (xs ys : List ℕ) → Appends a b xs → Appends b c ys → Appends a c (xs ++ ys)
 appends-then None b c xs ys p q = tt
@@ -38,16 +36,11 @@ read-more at n k buffer read inside fits =
     ∙ ap (λ m. take (m + n) (put_mid at k buffer read)) l
 
 -- what is copied behind a buffer's first bytes
-pub copied-behind : (at : ℕ) (buffer added later : List ℕ) → at + length added ≤ length buffer
-    → later ≡ copied added (take (at + length added - at) (drop at buffer))
+pub copied-behind : (at : ℕ) (buffer added later : List ℕ) → at + length added ≤ length buffer → later ≡ added
     → take (at + length added) (put_mid at (at + length added - at) buffer later) ≡ take at buffer ++ added
 copied-behind at buffer added later h e =
-    let k = at + length added - at in
-    let room : length added ≡ length (take k (drop at buffer)) = omega (arith, length-take k (drop at buffer), length-drop at buffer) in
-    let whole : later ≡ added = e ∙ copied-whole added (take k (drop at buffer)) room in
-    let size : length added ≤ length later = omega (arith, ap length whole) in
-    sym (read-more at (length added) k buffer later (omega arith) size)
-    ∙ ap (λ l. take at buffer ++ take (length added) l) whole
+    sym (read-more at (length added) (at + length added - at) buffer later (omega arith) (omega (arith, ap length e)))
+    ∙ ap (λ l. take at buffer ++ take (length added) l) e
     ∙ ap (λ l. take at buffer ++ l) (take_all (length added) added (omega arith))
 
 -- what stands behind a buffer's first bytes, and what was read there

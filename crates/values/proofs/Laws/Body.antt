@@ -1,5 +1,6 @@
 -- The body of an accepted section lies in the input, and has MessageSize bytes.
 use Prim.Native.Nat.{ℕ, ◌+◌, ◌^◌, ◌≤◌, ◌<◌}
+use Rattle.std.specs.Prelude.{Ok}
 use mathlib.Core.Path.{◌≡◌, refl, sym, subst}
 use mathlib.Core.Bool.{Bool, true, false, cond}
 use mathlib.Core.List.{List}
@@ -15,7 +16,6 @@ use Rattle.rules.specs.Properties.{body_at, extension_at, properties_length, pro
 use Rattle.rules.specs.Reading.{fields_at, judge, start_at, summarize, summary_at}
 use Rattle.rules.specs.Security.{EB}
 use Rattle.rules.specs.Summary.{part_of, summary_of}
-use Rattle.rules.specs.declared.section.Summarized.TheVariants.{Accepted}
 use Rattle.rules.specs.declared.section.Summary.{Summary}
 use Rattle.rules.proofs.Laws.Accepted.{accepted-at}
 use Rattle.reading.proofs.Laws.Passed.{section-ends}
@@ -45,11 +45,11 @@ module _ (first : Bool) (s : List ℕ) where
       let h : at + f.message_size.0 ≤ length s = omega (arith, (section-ends first s none).input) in
       record { size = length-within s at f.message_size.0 h; octets = octets-within s at f.message_size.0 h }
 
-  pub body-in : (m : Summary) → summarize first s ≡ Accepted m → BodyIn s m
+  pub body-in : (m : Summary) → summarize first s ≡ Ok m → BodyIn s m
   body-in m e = let a = accepted-at first s m e in subst (BodyIn s) (sym a.1) (body-at a.0)
 
   -- the section's value is that of its body: 61 goes by MessageSize, which is the body's length
-  pub value-at : (m : Summary) → summarize first s ≡ Accepted m
+  pub value-at : (m : Summary) → summarize first s ≡ Ok m
       → let body = part_of s m.parts.body in
       value_in (eqb (EB m.security.fields) 1) m.properties.body_type (length body) body ≡ read_value first s
   unfolding read_value section_value

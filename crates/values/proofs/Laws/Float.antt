@@ -1,25 +1,14 @@
 -- Floats and their bit patterns, over the format.
 use Prim.Native.Nat.{ℕ, ◌*◌, ◌<◌}
-use mathlib.Core.Path.{◌≡◌, refl, sym, ap, subst, ◌∙◌}
+use mathlib.Core.Path.{◌≡◌, sym, ap, subst, ◌∙◌}
 use mathlib.Core.Bool.{Bool, true, false, not}
 use lib.Dec.{T}
-use lib.Ieee.{Float, Format, fin, fits, inf, is_nan, nan, nan_bits, ne, of_bits, to_bits, top}
-use lib.Ieee.Bits.{is_true, nan_bits_is, of_bits-fits, of_bits-to_bits, to_bits-lt, to_bits-of_bits}
-use lib.Ieee.Compare.{differs_from_itself, nan_differs}
+use lib.Ieee.{Float, Format, fits, is_nan, nan_bits, of_bits, to_bits, top}
+use lib.Ieee.Bits.{is_true, nan_bits_above, nan_bits_is, of_bits-fits, of_bits-to_bits, to_bits-lt, to_bits-of_bits}
 
 -- a test that failed, as the language's calls ask for it
-pub fails : (b : Bool) → b ≡ false → T (not b)
+fails : (b : Bool) → b ≡ false → T (not b)
 fails b e = subst (λ (x : Bool). T (not x)) (sym e) tt
-
--- only a NaN differs from itself
-pub differs : (x : Float) → ne x x ≡ true → x ≡ nan
-differs x e = differs_from_itself x (subst T (sym e) tt)
-
-pub not-nan : (x : Float) → ne x x ≡ false → is_nan x ≡ false
-unfolding is_nan
-not-nan nan e = sym nan_differs ∙ e
-not-nan (inf s) e = refl
-not-nan (fin s m d) e = refl
 
 -- a pattern that is no NaN's is that of the number read from it
 pub pattern-kept : (f : Format) (n : ℕ) → n < 2 * top f → nan_bits f n ≡ false → to_bits f (of_bits f n) ≡ n
@@ -39,3 +28,6 @@ number-kept f x h e =
 -- and the pattern fits the format's width
 pub number_small : (f : Format) (x : Float) → fits f x ≡ true → to_bits f x < 2 * top f
 number_small f x h = to_bits-lt f x (subst T (sym h) tt)
+
+-- a pattern is a NaN's by one comparison, without the sign's bit
+pub ruleset nan_tests = (nan_bits_above)

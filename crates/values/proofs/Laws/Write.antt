@@ -1,8 +1,7 @@
 -- The bytes of a value.
 use Prim.Native.Nat.{ℕ, ◌≤◌}
-use mathlib.Core.Path.{◌≡◌, ap, ◌∙◌}
+use mathlib.Core.Path.{◌≡◌, sym, ap, ◌∙◌}
 use mathlib.Core.List.{List}
-use borrow.Author.Tests.{eq-eqb, ne_eqb}
 use lib.ListN.{length}
 use Rattle.octets.specs.Number.{to_le}
 use Rattle.octets.specs.Over.{copied, over}
@@ -16,13 +15,9 @@ pub length-value : (v : BodyValue) → length (value_bytes v) ≡ size_of (body_
 unfolding value_bytes
 length-value v = length-to_le (size_of (body_type v)) (bits_of v)
 
-pub eight-bytes : (v : BodyValue) → body_type v ≡ 5 → to_le 8 (bits_of v) ≡ value_bytes v
-unfolding value_bytes size_of
-eight-bytes v e = rw (eq-eqb (body_type v) 5 e)
-
-pub four_bytes : (v : BodyValue) → ¬ (body_type v ≡ 5) → to_le 4 (bits_of v) ≡ value_bytes v
-unfolding value_bytes size_of
-four_bytes v e = rw (ne_eqb (body_type v) 5 e)
+pub bytes-of : (v : BodyValue) (w : ℕ) → size_of (body_type v) ≡ w → to_le w (bits_of v) ≡ value_bytes v
+unfolding value_bytes
+bytes-of v w e = ap (λ (k : ℕ). to_le k (bits_of v)) (sym e)
 
 -- copied to an output with room for them
 pub value-copied : (v : BodyValue) (bytes out : List ℕ) → bytes ≡ value_bytes v → length (value_bytes v) ≤ length out

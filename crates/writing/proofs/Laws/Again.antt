@@ -1,5 +1,7 @@
 -- An accepted section written again, whole or with less of it shown: one law for both.
 use Prim.Native.Nat.{ℕ, ◌+◌, ◌%◌, ◌≤◌}
+use Rattle.rules.specs.declared.refusal.Refusal.{Refusal}
+use Rattle.std.specs.Prelude.{Err, Ok, Result}
 use mathlib.Core.Path.{◌≡◌, refl, sym, ap, subst, ◌∙◌}
 use mathlib.Core.Bool.{Bool, true, false, cond}
 use mathlib.Core.List.{List, [], ◌++◌}
@@ -19,10 +21,7 @@ use Rattle.rules.specs.Security.{ST, identity_head, identity_size, security_fiel
 use Rattle.rules.specs.Reading.{full_reading, read, summarize}
 use Rattle.rules.specs.Summary.{label_of, no_security, properties_at, section_of, summary_of}
 use Rattle.rules.specs.declared.properties.PropertiesFields.{PropertiesFields}
-use Rattle.rules.specs.declared.section.Reading.TheVariants.{Accepted as Reading-as-Accepted}
 use Rattle.rules.specs.declared.section.Section.{Section}
-use Rattle.rules.specs.declared.section.Summarized.{Summarized}
-use Rattle.rules.specs.declared.section.Summarized.TheVariants.{Accepted, Refused}
 use Rattle.rules.specs.declared.section.Summary.{Summary}
 use Rattle.rules.specs.declared.security.SecurityFields.{SecurityFields}
 use Rattle.rules.specs.declared.security.SecurityHeader.{SecurityHeader}
@@ -61,17 +60,17 @@ pub record WrittenAs (g : Given) (n : Bytes) (section : List ℕ) : Type 0 where
   pub bytes : section_bytes g ≡ section
 
 -- an accepted input has a summary, of which the full reading is made
-pub accepted : (s : List ℕ) (x : Summarized) (r : Section) → full_reading s x ≡ Reading-as-Accepted r
-    → (x ≡ Accepted r.summary) × (r ≡ section_of r.summary s)
+pub accepted : (s : List ℕ) (x : Result Summary Refusal) (r : Section) → full_reading s x ≡ Ok r
+    → (x ≡ Ok r.summary) × (r ≡ section_of r.summary s)
 unfolding full_reading section_of
-accepted s (Accepted m) r e =
+accepted s (Ok m) r e =
     let section : r ≡ section_of m s = cc in
     let summary = ap (λ (x : Section). x.summary) section in
-    (ap Accepted (sym summary), subst (λ (m : Summary). r ≡ section_of m s) (sym summary) section)
-accepted s (Refused x) r e = let z : ◌≡◌ {A = ℕ} 0 1 = cc in absurd (omega arith)
+    (ap Ok (sym summary), subst (λ (m : Summary). r ≡ section_of m s) (sym summary) section)
+accepted s (Err x) r e = let z : ◌≡◌ {A = ℕ} 0 1 = cc in absurd (omega arith)
 
 -- the section has passed, first or not as its summary says
-summary-passed : (first : Bool) (s : List ℕ) (m : Summary) → summarize first s ≡ Accepted m
+summary-passed : (first : Bool) (s : List ℕ) (m : Summary) → summarize first s ≡ Ok m
     → SectionPassed m.security_first s m
 unfolding summary_of
 summary-passed first s m e =
@@ -190,7 +189,7 @@ module _ {k : Given → Given} {bits : ℕ} (w : Way k bits) where
         }
 
   -- what was accepted, written again in this way: it has the section's length, and shows what the masks count
-  pub accepted-again : (first : Bool) (s : List ℕ) (r : Section) → Octets s → read first s ≡ Reading-as-Accepted r
+  pub accepted-again : (first : Bool) (s : List ℕ) (r : Section) → Octets s → read first s ≡ Ok r
       → WrittenAs (k (given_of r s)) r.summary.parts.section_length (masked (section_bits bits r.summary) s)
   unfolding read
   accepted-again first s r b e =

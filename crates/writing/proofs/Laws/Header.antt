@@ -1,6 +1,6 @@
 -- The bytes of both headers are the rows of their fields with the parts behind them.
 use Prim.Native.Nat.{ℕ, ◌+◌}
-use mathlib.Core.Path.{◌≡◌, refl}
+use mathlib.Core.Path.{◌≡◌, refl, ap, ◌∙◌}
 use mathlib.Core.List.{List, [], ◌++◌, append_assoc, append-nil}
 use native.Mathlib.Omega.{arith}
 use lib.ListN.{length, replicate, length-append}
@@ -25,10 +25,11 @@ pub length-security_row : (f : SecurityFields) → length (row_bytes security_ro
 unfolding row_bytes security_row field_bytes to_le
 length-security_row f = refl
 
--- the next number, stored behind what is written
-pub number-next : {p out now later : List ℕ} {end : ℕ} (width n : ℕ) → Written p out end now → later ≡ over_at end (to_le width n) now
-    → Written (p ++ to_le width n) out (end + width) later
-number-next {end = end} width n w e = written_next end width (to_le width n) w refl (length-to_le width n) e
+-- the next field, of a number's bytes, stored behind what is written
+pub number-next : {p out now later field : List ℕ} {end : ℕ} (width n : ℕ) → Written p out end now → field ≡ to_le width n
+    → later ≡ over_at end field now → Written (p ++ to_le width n) out (end + width) later
+number-next {now = now} {end = end} width n w made e =
+    written_next end width (to_le width n) w refl (length-to_le width n) (e ∙ ap (λ (bs : List ℕ). over_at end bs now) made)
 
 -- the fields stored one behind the other are the row
 pub security-stored : (f : SecurityFields)

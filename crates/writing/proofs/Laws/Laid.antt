@@ -67,7 +67,7 @@ properties-sized g a =
 
 -- the SecurityHeader's parts have room
 parts-room : (g : Given) (n : ℕ) → security_length (security_given g) ≤ n
-    → 16 + parts_length g.sender_id g.encryption_key g.signature g.sender_cert g.provider_info ≤ n
+    → 16 + parts_length g ≤ n
 unfolding security_from security_length provider_at cert_at signature_at key_at
 parts-room g n h = omega arith
 

@@ -1,11 +1,8 @@
--- Where the file goes on, one more record is counted; the loop ends at the latest where the record number is the greatest.
-use Rattle.std.proofs.Common.{◌-◌, ◌≡◌, length}
+-- Where the file goes on, one more record is counted.
+use Rattle.std.proofs.Common.{◌≡◌, length}
 use Rattle.copies.specs.Day.{DayHolds}
 use Rattle.copies.proofs.day.copy_records.Given as goal
 
 abbrev pub invariant-loop-number : goal.invariant-loop-number
 invariant-loop-number l =
     DayHolds l.number l.output l.day × (length l.input ≡ length l.initial.input) × (length l.output ≡ length l.initial.output)
-
-abbrev pub decreases-loop-number : goal.decreases-loop-number
-decreases-loop-number l = 18446744073709551615 - l.number

@@ -1,11 +1,13 @@
 -- The head decides.
 use Prim.Native.Nat.{ℕ, ◌+◌, ◌-◌}
+use Rattle.octets.specs.declared.count.Bytes.{Bytes}
+use Rattle.rules.specs.declared.refusal.Refusal.{Refusal}
+use Rattle.std.specs.Prelude.{Result}
 use mathlib.Core.List.{List}
 use mathlib.Core.Path.{◌≡◌, ap, sym, ◌∙◌}
 use native.Mathlib.Omega.{arith}
 use lib.ListN.{take, drop}
 use Rattle.rules.specs.Support.{support_answer}
-use Rattle.rules.specs.declared.section.Output.{Output}
 use Rattle.records.specs.Head.{section_behind}
 use Rattle.records.proofs.Laws.Head.{HeadFits, head-fits}
 use Rattle.copying.specs.Record.{answer_behind, bytes_behind, bytes_from, copy_bytes, copy_from, copy_record, section_answer}
@@ -24,18 +26,6 @@ slice_bounds-copy_behind-end c = omega (arith, fits (goal.at.slice_bounds-copy_b
 pub copy_behind-requires : goal.copy_behind-requires
 copy_behind-requires c = (fits (goal.at.copy_behind-requires c).In-Found).small
 
-pub returns-in-End : goal.returns-in-End
-unfolding copy_record copy_bytes copy_from bytes_from
-returns-in-End c =
-    let e = sym c.in-End.is ∙ c.next_head.ensures in
-    record { value = ap (copy_from c.args.s.now c.args.out.now) e; out_after = ap (bytes_from c.args.s.now c.args.out.now) e }
-
-pub returns-in-Stop : goal.returns-in-Stop
-unfolding copy_record copy_bytes copy_from bytes_from
-returns-in-Stop c =
-    let e = sym c.in-Stop.is ∙ c.next_head.ensures in
-    record { value = ap (copy_from c.args.s.now c.args.out.now) e; out_after = ap (bytes_from c.args.s.now c.args.out.now) e }
-
 pub returns-in-Found : goal.returns-in-Found
 unfolding copy_record copy_bytes copy_from bytes_from section_answer section_behind
 returns-in-Found c =
@@ -46,7 +36,7 @@ returns-in-Found c =
     let cut : 8 + n - 8 ≡ n = omega arith in
     let e = sym c.in-Found.is ∙ c.next_head.ensures in
     let call = c.copy_behind.ensures in
-    let answer : List ℕ → Output = λ x. support_answer h.security_first x (drop 8 out) in
+    let answer : List ℕ → Result Bytes Refusal = λ x. support_answer h.security_first x (drop 8 out) in
     let section : ℕ → List ℕ = λ k. take k (drop 8 s) in
     record {
       value = call.value ∙ ap (λ (k : ℕ). answer_behind h (answer (section k))) cut ∙ ap (copy_from s out) e;

@@ -1,19 +1,18 @@
 -- The loop's invariant: so many records stand before the offset, and the table has room for them.
 use Prim.Native.Nat.{ℕ, ◌+◌, ◌-◌, ◌<◌, ◌≤◌}
+use Rattle.records.specs.declared.head.Next.TheVariants.{Found}
+use Rattle.records.specs.declared.head.Next.{Next}
 use mathlib.Core.Path.{◌≡◌, ◌∙◌}
 use mathlib.Core.Bool.{true, false}
-use mathlib.Core.Logic.{inl, inr}
 use native.Mathlib.Omega.{arith}
 use mathlib.Core.List.{List}
 use lib.ListN.{length, take, drop}
+use Rattle.rules.specs.Refusal.{number}
 use Rattle.records.specs.Head.{next_head}
 use Rattle.records.specs.declared.head.Head.{Head}
-use Rattle.records.specs.declared.head.NextHead.{NextHead}
-use Rattle.records.specs.declared.head.NextHead.TheVariants.{Found as NextHead-as-Found}
 use Rattle.records.specs.Record.{next_record, record_of}
-use Rattle.records.specs.declared.record.Next.TheVariants.{Found}
 use Rattle.days.specs.Day.{records_of}
-use Rattle.days.proofs.Laws.Answer.{day-bad, day-many, day-read}
+use Rattle.days.proofs.Laws.Answer.{above_min, day-bad, day-many, day-read}
 use Rattle.days.proofs.Laws.Reached.{Reached, at-end, at-stop, head-end, head-found, head-stop, last-count, last-stops, more}
 use Rattle.days.proofs.Laws.Reached.{reached-next, reached-none, size_fits}
 use Rattle.days.proofs.count.count_records.Goals as goal
@@ -28,6 +27,7 @@ returns-in-End c =
     day-read (records_of a.file.now) a.slots.0 _ (omega (arith, last-count x false ended)) (omega arith) (omega arith) (last-stops x false ended)
 
 pub returns-in-Stop : goal.returns-in-Stop
+unfolding number
 returns-in-Stop c =
     let a = c.args in
     let l = c.loop-head in
@@ -39,8 +39,8 @@ returns-in-Stop c =
     ∙ day-bad (records_of a.file.now) a.slots.0 _ (omega (arith, last-count x true ended)) (omega arith) (omega arith) (last-stops x true ended)
 
 -- behind a head that was found stands a record, which lies in the file, so that there is one more than were counted
-module _ {s : List ℕ} {n at : ℕ} (x : Reached s n at) (head : Head) {told : NextHead}
-    (e : told ≡ next_head (take (length s - at) (drop at s))) (is : told ≡ NextHead-as-Found head) where
+module _ {s : List ℕ} {n at : ℕ} (x : Reached s n at) (head : Head) {told : Next Head}
+    (e : told ≡ next_head (take (length s - at) (drop at s))) (is : told ≡ Found head) where
   found : next_record (drop at s) ≡ Found (record_of (drop at s) head)
   found = head-found s at e head is
 
@@ -54,18 +54,12 @@ module _ {s : List ℕ} {n at : ℕ} (x : Reached s n at) (head : Head) {told : 
   next = reached-next x _ found
 
 pub returns-then-records-most : goal.returns-then-records-most
+unfolding number
 returns-then-records-most c =
     let a = c.args in
     let full = c.if-records-most.true in
-    c.refused-then-records-most.ensures
-    ∙ day-many (records_of a.file.now) a.slots.0 (inl (omega (arith, one_more c.loop-head.invariant.0 c.in-Found.head c.next_head.ensures c.in-Found.is, full)))
-
-pub returns-then-records-eq-MOST : goal.returns-then-records-eq-MOST
-returns-then-records-eq-MOST c =
-    let a = c.args in
-    let full = c.if-records-eq-MOST.true in
-    c.refused-then-records-eq-MOST.ensures
-    ∙ day-many (records_of a.file.now) a.slots.0 (inr (omega (arith, one_more c.loop-head.invariant.0 c.in-Found.head c.next_head.ensures c.in-Found.is, full)))
+    let more = one_more c.loop-head.invariant.0 c.in-Found.head c.next_head.ensures c.in-Found.is in
+    c.refused-then-records-most.ensures ∙ day-many (records_of a.file.now) a.slots.0 (above_min _ _ (omega (arith, more, full)))
 
 pub loop-head-preserved : goal.loop-head-preserved
 loop-head-preserved c =

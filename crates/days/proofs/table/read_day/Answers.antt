@@ -18,7 +18,7 @@ fill-requires c =
     let a = c.args in
     let room =
     fills-room (records_of a.file.now) (length a.table.now) (sym (told (goal.at.fill-requires c).After-fills_slots) ∙ c.if-fills_slots.true) in
-    record { file_in_bounds = room.0; file_len_bound = room.1 }
+    room.0
 
 pub returns-then-fills_slots : goal.returns-then-fills_slots
 unfolding day_table

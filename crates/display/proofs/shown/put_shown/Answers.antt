@@ -1,10 +1,4 @@
--- The loop's invariant: the first `i` units are shown, in `at` bytes, and the output is as long as it was.
-use Prim.Native.Nat.{ℕ, ◌*◌, ◌/◌}
-use mathlib.Core.Path.{◌≡◌, refl, sym, ap, ◌∙◌}
-use mathlib.Core.List.{List, []}
-use native.Mathlib.Omega.{arith}
-use lib.ListN.{length, get_or, take}
-use Rattle.octets.specs.Over.{over}
+use Rattle.std.proofs.Common.{ℕ, ◌/◌, ◌≡◌, [], length, get_or, refl, sym, ap, ◌∙◌, arith}
 use Rattle.octets.specs.Text.{units}
 use Rattle.octets.proofs.Laws.Over.{over_none, over-start}
 use Rattle.octets.proofs.Laws.Text.{get_or-units, length-units}
@@ -14,36 +8,34 @@ use Rattle.display.proofs.shown.put_shown.Goals as goal
 
 pub loop-i-init : goal.loop-i-init
 unfolding shown
-loop-i-init c =
-    let out = c.args.out.now in
-    (omega arith, omega arith, refl, refl, over_none 0 out ∙ over-start [] out)
+loop-i-init c = record {
+  room = omega arith;
+  at = refl;
+  out = over_none 0 c.args.out.now ∙ over-start [] c.args.out.now;
+}
 
 pub loop-i-preserved : goal.loop-i-preserved
 loop-i-preserved c =
-    let a = c.args in
     let l = c.loop-i in
-    let us = units a.s.now in
-    let n = length-units a.s.now in
+    let us = units c.args.s.now in
+    let n = length-units c.args.s.now in
     let u = c.u16_at in
-    let w = c.put_unit-at in
-    let e : u.result ≡ get_or us l.i 0 = u.ensures ∙ sym (get_or-units a.s.now l.i (omega arith)) in (
-      omega arith,
-      omega (arith, w.ensures.result_bound),
-      omega arith,
-      omega (arith, w.ensures.result_value, ap (λ (v : ℕ). length (shown_unit v)) e, length-shown-suc l.i us (omega arith)),
-      over-shown l.i l.at.0 u.result us a.out.now l.invariant.4 l.invariant.3 (omega arith) e w.ensures.out_after,
-    )
-
-pub returns : goal.returns
-returns c =
-    let a = c.args in
-    let l = c.loop-i in
-    let m = c.smaller-n in
-    let n = m.result.0 / 2 in
-    let i : n ≡ l.i = omega arith in
-    let e : take l.i (units a.s.now) ≡ units (take (2 * n) a.s.now) =
-    ap (λ (k : ℕ). take k (units a.s.now)) (sym i) ∙ sym (units-take a.s.now n) in record {
-      taken_value = omega (arith, m.ensures);
-      length_value = l.invariant.3 ∙ ap (λ (us : List ℕ). length (shown us)) e;
-      out_after = l.invariant.4 ∙ ap (λ (us : List ℕ). over (shown us) a.out.now) e;
+    let w = c.put_unit-at.ensures in
+    let e : u.result ≡ get_or us l.i 0 = u.ensures ∙ sym (get_or-units c.args.s.now l.i (omega arith)) in record {
+      room = omega arith;
+      at = omega (arith, w.result_value, ap (λ (v : ℕ). length (shown_unit v)) e, length-shown-suc l.i us (omega arith));
+      out = over-shown l.i l.at.0 u.result us c.args.out.now l.invariant.out l.invariant.at (omega arith) e w.out_after;
     }
+
+-- what was shown when the loop has ended
+pub returns-clause-length_value : goal.returns-clause-length_value
+returns-clause-length_value c =
+    let n = c.min-n.result / 2 in
+    let i : c.loop-i.i ≡ n = omega arith in
+    c.loop-i.invariant.at ∙ rw (i, ← units-take c.args.s.now n)
+
+pub returns-clause-out_after : goal.returns-clause-out_after
+returns-clause-out_after c =
+    let n = c.min-n.result / 2 in
+    let i : c.loop-i.i ≡ n = omega arith in
+    c.loop-i.invariant.out ∙ rw (i, ← units-take c.args.s.now n)

@@ -5,7 +5,6 @@ use mathlib.Core.List.{List}
 use native.Mathlib.Omega.{arith}
 use borrow.Author.Tests.{le-ltb, lt-leb, lt-ltb}
 use lib.ListN.{length}
-use Rattle.octets.proofs.Laws.Steps.{steps}
 use Rattle.reading.specs.Fields.{properties_read}
 use Rattle.fields.specs.Field.{behind_security, field_at, field_in, properties_widths, security_widths}
 use Rattle.fields.proofs.place.field_at.Goals as goal
@@ -33,8 +32,3 @@ returns c =
     let widths = c.properties_widths-widths.ensures ∙ ap properties_widths fields in
     rw (lt-leb (length s) place (omega arith), le-ltb place p (omega (arith, c.behind_security-start.ensures)))
     (c.field_in-2.ensures ∙ ap₂ (λ (ws : List ℕ) (k : ℕ). field_in 18 ws (place - k)) widths c.behind_security-start.ensures)
-
-pub returns-then-s-place : goal.returns-then-s-place
-unfolding field_at
-returns-then-s-place c =
-    search steps depth 20

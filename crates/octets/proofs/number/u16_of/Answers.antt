@@ -1,9 +1,8 @@
--- Both sides compute to the same sum.
-use native.Mathlib.Omega.{arith}
-use Rattle.octets.specs.Number.{le}
+use mathlib.Core.Path.{◌∙◌}
+use mathlib.Core.List.{[], ◌∷◌}
+use Rattle.octets.proofs.Laws.Words.{from_16}
 use Rattle.octets.proofs.number.u16_of.Goals as goal
 
 pub returns : goal.returns
-unfolding le
 returns c =
-    omega arith
+    c.from_le_bytes.ensures ∙ from_16 (c.args.a ∷ c.args.b ∷ [])

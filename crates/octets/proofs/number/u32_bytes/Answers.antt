@@ -1,14 +1,7 @@
--- The bytes of a number in four bytes are those of its low half, and those of its high half behind them.
-use Prim.Native.Nat.{ℕ, ◌/◌}
-use mathlib.Core.Path.{sym, ap, ◌∙◌}
-use mathlib.Core.List.{List, ◌++◌}
-use Rattle.octets.specs.Number.{to_le}
-use Rattle.octets.proofs.Laws.Number.{to_le-add, to_le-mod}
+use mathlib.Core.Path.{◌∙◌}
+use Rattle.octets.proofs.Laws.Words.{to_word}
 use Rattle.octets.proofs.number.u32_bytes.Goals as goal
 
 pub returns : goal.returns
-unfolding to_le
 returns c =
-    let n = c.args.n in
-    rw (c.u16_bytes-low.ensures, c.u16_bytes-high.ensures)
-    (ap (λ (low : List ℕ). low ++ to_le 2 (n / 65536)) (to_le-mod 2 n) ∙ sym (to_le-add 2 2 n))
+    c.to_le_bytes.ensures ∙ to_word 4 c.args.n

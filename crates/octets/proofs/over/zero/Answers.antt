@@ -1,4 +1,4 @@
--- The loop's invariant: `i` zeros are written, and the output is as long as it was. The measure is what is left of it.
+-- One zero more at each turn.
 use Prim.Native.Nat.{ℕ}
 use mathlib.Core.Path.{◌≡◌, refl, ap, ◌∙◌}
 use mathlib.Core.List.{[]}
@@ -11,19 +11,19 @@ pub loop-i-preserved : goal.loop-i-preserved
 loop-i-preserved c =
     let out = c.args.out.now in
     let l = c.loop-i in
-    (omega arith, length-set l.out l.i 0 ∙ l.invariant.1, over_zeros l.i out l.invariant.2 (omega arith))
+    (length-set l.out l.i 0 ∙ l.invariant.0, over_zeros l.i out l.invariant.1 (omega arith))
 
 pub returns : goal.returns
 returns c =
     let out = c.args.out.now in
     let l = c.loop-i in
     let e : l.i ≡ length out = omega arith in
-    l.invariant.2 ∙ over-whole (replicate l.i 0) out (length-replicate {A = ℕ} l.i 0 ∙ e) ∙ ap (λ (n : ℕ). replicate n 0) e
+    l.invariant.1 ∙ over-whole (replicate l.i 0) out (length-replicate {A = ℕ} l.i 0 ∙ e) ∙ ap (λ (n : ℕ). replicate n 0) e
 
 pub loop-i-init : goal.loop-i-init
 loop-i-init c =
-    (omega arith, refl, over_none 0 c.args.out.now ∙ over-start [] c.args.out.now)
+    (refl, over_none 0 c.args.out.now ∙ over-start [] c.args.out.now)
 
 pub shape_of-out : goal.shape_of-out
 shape_of-out c =
-    c.loop-i.invariant.1
+    c.loop-i.invariant.0

@@ -1,12 +1,10 @@
 -- Refused after the finish; or the refusal or the summary of what is held, by the header that stands first.
-use Prim.Native.Nat.{ℕ}
-use mathlib.Core.Bool.{Bool, true, false}
-use mathlib.Core.Path.{◌≡◌, sym, ap, ◌∙◌}
+use Rattle.std.proofs.Common.{◌||◌, ◌≡◌, ◌∙◌, Bool, Err, Ok, ap, false, not, refl, sym, true}
+use Rattle.rules.specs.Refusal.{judged_of, number}
 use Rattle.rules.specs.declared.refusal.Refusal.{Refusal}
-use Rattle.rules.specs.declared.section.Summarized.TheVariants.{Accepted, Refused}
-use Rattle.rules.specs.declared.security.SecurityFields.{SecurityFields}
+use Rattle.rules.proofs.Laws.Cause.{not-0}
 use Rattle.reading.specs.Fields.{security_read}
-use Rattle.reading.specs.Held.{held_base, held_header, held_summary}
+use Rattle.reading.specs.Held.{held_base, held_header, held_security_number, held_summary}
 use Rattle.portions.specs.Finish.{finish_answer, finish_case, held_judge}
 use Rattle.portions.specs.Name.{name_text}
 use Rattle.portions.specs.State.{state_with}
@@ -15,74 +13,72 @@ use Rattle.portions.specs.declared.state.State.{State}
 use Rattle.portions.proofs.Laws.Call.{answered, refused-again}
 use Rattle.portions.proofs.Laws.Judge.{held-accepted, held_number, held-refused}
 use Rattle.portions.proofs.finish.finish_case.Goals as goal
-use Rattle.portions.proofs.finish.finish_case.Goals.{After-held_judge-judged}
 
 pub returns-then-progress : goal.returns-then-progress
-unfolding finish_case
+unfolding finish_case number
 returns-then-progress c =
     let a = c.args in
     let x = state_with a.progress a.head.now a.provider_type.now a.properties.now in
-    let again = ap Refused c.after_the_finish.ensures ∙ sym (refused-again x c.if-progress.true) in
-    ap (finish_case a.progress.security_first) again
+    ap (finish_case a.progress.security_first) (ap Err c.at_start.ensures ∙ sym (refused-again x c.if-progress.true))
 
--- the state, and what is judged of it
-state : After-held_judge-judged → State
-state c =
-    let a = c.args in
-    state_with a.progress a.head.now a.provider_type.now a.properties.now
+-- what is judged has the number of the refusal
+module _ (x : State) where
+  abbrev judged : Bool → Refusal
+  judged text = held_base x.progress.received.0 x.progress.security_first x.head text x.properties
 
-judged : (c : After-held_judge-judged)
-    → let x = state c in
-    let p = x.progress in
-    c.held_judge-judged.result
-    ≡ held_base p.received.0 p.security_first x.head (name_text (security_read x.head).provider_info_size.0 p.name) x.properties
-unfolding state
-judged c =
-    let a = c.args in
-    let p = a.progress in
-    let text = c.name_text-text.ensures
-    ∙ ap (λ (f : SecurityFields). name_text f.provider_info_size.0 p.name) c.security_fields-f.ensures.value in
-    c.held_judge-judged.ensures
-    ∙ ap (λ (t : Bool). held_base p.received.0 p.security_first a.head.now t a.properties.now) text
+  abbrev refusal_held : Refusal
+  refusal_held = held_judge x.progress x.head x.properties
 
-number : (c : After-held_judge-judged) → let x = state c in c.held_judge-judged.result.number ≡ (held_judge x.progress x.head x.properties).number
-number c = let x = state c in ap (λ (r : Refusal). r.number) (judged c) ∙ held_number x.progress x.head x.properties
+  abbrev name_passes : Bool
+  name_passes = name_text (security_read x.head).provider_info_size.0 x.progress.name
 
-going : (c : After-held_judge-judged) → (state c).progress.finished ≡ false
-unfolding state
-going c = c.if-progress.false
+  -- where no SecurityHeader stands first the name is not asked
+  same-text : (text : Bool) → text ≡ (not x.progress.security_first || name_passes) → judged text ≡ judged name_passes
+  unfolding held_base held_security_number
+  same-text text t = go x.progress.security_first refl
+    where
+      go : (first : Bool) → x.progress.security_first ≡ first → judged text ≡ judged name_passes
+      go true e = ap judged (t ∙ rw e refl)
+      go false e = rw e refl
+
+  same-number : (text : Bool) (r : Refusal) → text ≡ (not x.progress.security_first || name_passes) → r ≡ judged text → r.number ≡ refusal_held.number
+  same-number text r t h = ap (λ (s : Refusal). s.number) (h ∙ same-text text t) ∙ held_number x.progress x.head x.properties
+
+  -- the answer of what passed every step, where it is known which header stands first
+  accepted : (first : Bool) → x.progress.finished ≡ false → 0 ≡ refusal_held.number → x.progress.security_first ≡ first
+      → finish_case x.progress.security_first (finish_answer x)
+      ≡ finish_case first (Ok (held_summary first x.head x.provider_type x.properties))
+  accepted first going none e =
+      ap (finish_case x.progress.security_first) (answered x going ∙ held-accepted x (sym none))
+      ∙ ap (λ (b : Bool). finish_case b (Ok (held_summary b x.head x.provider_type x.properties))) e
 
 pub placed-requires : goal.placed-requires
-unfolding state
-placed-requires c = judged (goal.at.placed-requires c).After-held_judge-judged
+unfolding judged_of
+placed-requires c =
+    let a = c.args in
+    c.in-Err.ensures ∙ same-text (state_with a.progress a.head.now a.provider_type.now a.properties.now) _ c.text_passes.ensures
 
-pub returns-then-judged-ne-PASSED : goal.returns-then-judged-ne-PASSED
-unfolding state finish_case
-returns-then-judged-ne-PASSED c =
-    let l = (goal.at.returns-then-judged-ne-PASSED c).After-held_judge-judged in
-    let x = state l in
-    let some : ¬ ((held_judge x.progress x.head x.properties).number ≡ 0) = λ z. c.if-judged-ne-PASSED.true (number l ∙ z) in
-    ap (finish_case x.progress.security_first) (held-refused x _ c.placed.ensures some ∙ sym (answered x (going l)))
-
--- the answer of what passed every step, where it is known which header stands first
-accepted : (x : State) (n : ℕ) (first : Bool) → x.progress.finished ≡ false
-    → n ≡ (held_judge x.progress x.head x.properties).number → n ≡ 0 → x.progress.security_first ≡ first
-    → finish_case x.progress.security_first (finish_answer x)
-    ≡ finish_case first (Accepted (held_summary first x.head x.provider_type x.properties))
-accepted x n first going told none e =
-    ap (finish_case x.progress.security_first) (answered x going ∙ held-accepted x (sym told ∙ none))
-    ∙ ap (λ (b : Bool). finish_case b (Accepted (held_summary b x.head x.provider_type x.properties))) e
+pub returns-in-Err : goal.returns-in-Err
+unfolding finish_case judged_of
+returns-in-Err c =
+    let a = c.args in
+    let x = state_with a.progress a.head.now a.provider_type.now a.properties.now in
+    let n = same-number x _ _ c.text_passes.ensures c.in-Err.ensures in
+    ap (finish_case x.progress.security_first)
+    (held-refused x _ c.placed.ensures (λ z. not-0 c.in-Err.failed.cause (n ∙ z)) ∙ sym (answered x c.if-progress.false))
 
 pub returns-then-progress-2 : goal.returns-then-progress-2
-unfolding state finish_case
+unfolding finish_case judged_of
 returns-then-progress-2 c =
-    let l = (goal.at.returns-then-progress-2 c).After-held_judge-judged in
-    ap WithSecurity c.held_with_security.ensures
-    ∙ sym (accepted (state l) _ true (going l) (number l) c.if-judged-ne-PASSED.false c.if-progress-2.true)
+    let a = c.args in
+    let x = state_with a.progress a.head.now a.provider_type.now a.properties.now in
+    let n = same-number x _ _ c.text_passes.ensures c.in_default.ensures in
+    ap WithSecurity c.held_with_security.ensures ∙ sym (accepted x true c.if-progress.false n c.if-progress-2.true)
 
 pub returns : goal.returns
-unfolding state finish_case held_summary held_header
+unfolding finish_case judged_of held_summary held_header
 returns c =
-    let l = (goal.at.returns c).After-held_judge-judged in
-    ap WithoutSecurity c.held_without_security.ensures
-    ∙ sym (accepted (state l) _ false (going l) (number l) c.if-judged-ne-PASSED.false c.if-progress-2.false)
+    let a = c.args in
+    let x = state_with a.progress a.head.now a.provider_type.now a.properties.now in
+    let n = same-number x _ _ c.text_passes.ensures c.in_default.ensures in
+    ap WithoutSecurity c.held_without_security.ensures ∙ sym (accepted x false c.if-progress.false n c.if-progress-2.false)

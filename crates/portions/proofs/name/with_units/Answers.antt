@@ -1,5 +1,5 @@
 -- The whole units, and what is left of the bytes.
-use Prim.Native.Nat.{ℕ, suc, ◌*◌, ◌/◌, ◌<◌}
+use Prim.Native.Nat.{ℕ, suc, ◌*◌, ◌-◌, ◌/◌, ◌<◌}
 use mathlib.Core.Path.{◌≡◌, sym, ap, ◌∙◌}
 use mathlib.Core.List.{List, [], ◌∷◌}
 use native.Mathlib.Omega.{arith}
@@ -21,24 +21,13 @@ one_left part odd =
     let none : drop (suc k) part ≡ [] = drop_of_length-le part {i = suc k} (omega arith) in
     drop-cons part k 0 odd ∙ ap (λ (r : List ℕ). get_or part k 0 ∷ r) none
 
-pub returns-then-n-part : goal.returns-then-n-part
-unfolding named
-returns-then-n-part c =
-    let a = c.args in
-    let part = a.part.now in
-    let k = 2 * (length part / 2) in
-    let whole = c.with_whole_units-judged.ensures in
-    let last = one_left part (omega arith) in
-    c.with_byte.ensures
-    ∙ ap (λ (m : NameProgress). with_byte m (get_or part k 0)) whole
-    ∙ sym (split a.name part k ∙ ap (named (named a.name (take k part))) last)
-
 pub returns : goal.returns
 unfolding named
 returns c =
     let a = c.args in
     let part = a.part.now in
     let k = 2 * (length part / 2) in
-    let none = drop_of_length-le part {i = k} (omega arith) in
-    c.with_whole_units-judged.ensures
-    ∙ sym (split a.name part k ∙ ap (named (named a.name (take k part))) none)
+    let last : length part - 1 ≡ k = omega arith in
+    c.with_byte.ensures
+    ∙ (λ i. with_byte (c.with_whole_units-judged.ensures i) (get_or part (last i) 0))
+    ∙ sym (split a.name part k ∙ ap (named (named a.name (take k part))) (one_left part (omega arith)))

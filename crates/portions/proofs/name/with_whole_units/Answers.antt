@@ -21,7 +21,9 @@ returns-then-part-lt2 c =
 
 pub returns-then-name : goal.returns-then-name
 returns-then-name c =
-    sym (whole-ended c.args.name c.args.part.now c.requires (omega arith) c.if-name.true)
+    let m = c.args.name in
+    (λ i. record { units = m.units; ended = c.if-name.true i; odd = c.requires i; low = 0 })
+    ∙ sym (whole-ended m c.args.part.now c.requires (omega arith) c.if-name.true)
 
 -- bytes to units, in room for so many
 halved : (before n : ℕ) → min 4294967295 (min (2 * before) (2 * limit - 2 * n) / 2) ≡ min before (limit - n)
@@ -33,10 +35,10 @@ more : (c : After-units)
     c.units.result.0 ≡ min (first_zero (units a.part.now)) (limit - a.name.units.0)
 more c =
     let a = c.args in
-    let room = c.less-room.ensures ∙ ap (λ (k : ℕ). 2 * limit - k) c.bytes.ensures in
+    let room = c.saturating_sub-room.ensures ∙ ap (λ (k : ℕ). 2 * limit - k) c.bytes.ensures in
     c.units.ensures
     ∙ ap (λ (k : ℕ). min 4294967295 (k / 2))
-    (c.smaller.ensures ∙ ap₂ min c.before_zero-before.ensures.result_value room)
+    (c.min.ensures ∙ ap₂ min c.before_zero-before.ensures.result_value room)
     ∙ halved (first_zero (units a.part.now)) a.name.units.0
 
 pub returns : goal.returns
@@ -49,7 +51,3 @@ returns c =
     (λ l. omega (arith, before)) (λ l. omega (arith, before)) in
     (λ i. between (a.name.units.0 + more (goal.at.returns c).After-units i) (ended i))
     ∙ sym (whole-going a.name part c.requires (omega arith) c.if-name.false)
-
-pub overflow_add-result : goal.overflow_add-result
-overflow_add-result c =
-    omega (arith, more (goal.at.overflow_add-result c).After-units)

@@ -1,17 +1,19 @@
 -- The stand-in is shown where the label part has no bytes.
 use mathlib.Core.Path.{◌≡◌, ap, sym, ◌∙◌}
+use Rattle.rules.specs.declared.refusal.Refusal.{Refusal}
+use Rattle.rules.specs.declared.section.Summary.{Summary}
+use Rattle.std.specs.Prelude.{Result}
 use mathlib.Core.Bool.{Bool, true, false}
 use borrow.Author.Tests.{eq-eqb, ne_eqb}
 use lib.Dec.{eqb}
 use Rattle.rules.specs.Reading.{label_shown, summarize}
 use Rattle.rules.specs.Summary.{part_of}
 use Rattle.rules.specs.declared.section.Part.{Part}
-use Rattle.rules.specs.declared.section.Summarized.{Summarized}
 use Rattle.reading.proofs.Laws.Label.{label-by-part, label-stands-in, stands_in}
 use Rattle.reading.proofs.label.label_shown.Goals as goal
 use Rattle.reading.proofs.label.label_shown.Goals.{After-label_part-label}
 
-answer : After-label_part-label → Summarized
+answer : After-label_part-label → Result Summary Refusal
 answer c = let a = c.args in summarize a.security_first a.s.now
 
 -- whether the stand-in is shown, by the test

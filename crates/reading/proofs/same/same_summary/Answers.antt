@@ -1,20 +1,18 @@
 -- A refused input has no summary; two accepted ones are compared.
+use mathlib.Core.Path.{sym}
 use Rattle.reading.proofs.Laws.Decided.{fails}
-use Rattle.reading.proofs.Laws.Passed.{none_told, some-told}
+use Rattle.reading.proofs.Laws.Passed.{err-told, ok-told}
 use Rattle.reading.proofs.Laws.Same.{refused-left, refused-right}
 use Rattle.reading.proofs.same.same_summary.Goals as goal
 
-pub returns-then-base_judge-ne-PASSED : goal.returns-then-base_judge-ne-PASSED
-returns-then-base_judge-ne-PASSED c = fails (refused-left _ _ _ (some-told _ _ c.base_judge.ensures c.if-base_judge-ne-PASSED.true))
+pub returns-then-is_err : goal.returns-then-is_err
+returns-then-is_err c = fails (refused-left _ _ _ (err-told _ _ _ c.base_judge.ensures (sym c.if-is_err.ensures.value)))
 
-pub returns-then-base_judge-ne-PASSED-2 : goal.returns-then-base_judge-ne-PASSED-2
-returns-then-base_judge-ne-PASSED-2 c = fails (refused-right _ _ _ (some-told _ _ c.base_judge-2.ensures c.if-base_judge-ne-PASSED-2.true))
+pub returns-then-is_err-2 : goal.returns-then-is_err-2
+returns-then-is_err-2 c = fails (refused-right _ _ _ (err-told _ _ _ c.base_judge-2.ensures (sym c.if-is_err-2.ensures.value)))
 
-pub same_accepted-requires : goal.same_accepted-requires
-same_accepted-requires c = record {
-  a_value = none_told _ _ c.base_judge.ensures c.if-base_judge-ne-PASSED.false;
-  b_value = none_told _ _ c.base_judge-2.ensures c.if-base_judge-ne-PASSED-2.false;
-}
+pub same_accepted-requires-clause-a_value : goal.same_accepted-requires-clause-a_value
+same_accepted-requires-clause-a_value c = ok-told _ _ _ c.base_judge.ensures (sym c.if-is_err.ensures.value)
 
-pub returns : goal.returns
-returns c = c.same_accepted.ensures
+pub same_accepted-requires-clause-b_value : goal.same_accepted-requires-clause-b_value
+same_accepted-requires-clause-b_value c = ok-told _ _ _ c.base_judge-2.ensures (sym c.if-is_err-2.ensures.value)

@@ -6,34 +6,21 @@ use Rattle.rules.proofs.Laws.Accepted.{summarize-passed}
 use Rattle.reading.specs.Case.{reading_case}
 use Rattle.reading.specs.declared.section.ReadingCase.TheVariants.{WithSecurity, WithoutSecurity}
 use Rattle.reading.proofs.Laws.Fields.{behind}
-use Rattle.reading.proofs.Laws.Passed.{none_told, refused-told}
+use Rattle.reading.proofs.Laws.Passed.{once-told}
 use Rattle.reading.proofs.section.reading_case.Goals as goal
 use Rattle.reading.proofs.section.reading_case.Goals.{Else-security_first, Then-security_first}
 
-pub returns-then-judged-ne-PASSED : goal.returns-then-judged-ne-PASSED
+pub returns-in-Err : goal.returns-in-Err
 unfolding reading_case read full_reading
-returns-then-judged-ne-PASSED c = rw (refused-told _ _ c.base_judge-judged.ensures c.if-judged-ne-PASSED.true c.placed.ensures)
+returns-in-Err c = rw (once-told _ _ c.in-Err.ensures)
 
 -- no step failed, whether a SecurityHeader stands first
 secured : (c : Then-security_first) → (judge true c.args.s.now).number ≡ 0
-secured c =
-    subst (λ (b : Bool). (judge b c.args.s.now).number ≡ 0) c.if-security_first.true
-    (none_told _ _ c.base_judge-judged.ensures c.if-judged-ne-PASSED.false)
-
-pub security_header-header-requires : goal.security_header-header-requires
-security_header-header-requires c = secured (goal.at.security_header-header-requires c).Then-security_first
+secured c = subst (λ (b : Bool). (judge b c.args.s.now).number ≡ 0) c.if-security_first.true (once-told _ _ c.in_default.ensures).0
 
 pub section_verdicts-verdicts-requires : goal.section_verdicts-verdicts-requires
 section_verdicts-verdicts-requires c =
     (behind _ _ _ (secured (goal.at.section_verdicts-verdicts-requires c).Then-security_first) c.security_header-header.ensures).fixed
-
-pub section_of-requires : goal.section_of-requires
-section_of-requires c =
-    record {
-      s_value = secured (goal.at.section_of-requires c).Then-security_first;
-      security_value = c.security_header-header.ensures;
-      verdicts_value = c.section_verdicts-verdicts.ensures;
-    }
 
 pub returns-then-security_first : goal.returns-then-security_first
 unfolding reading_case read full_reading
@@ -43,23 +30,16 @@ returns-then-security_first c =
     rw (t, summarize-passed true s (secured (goal.at.returns-then-security_first c).Then-security_first)) (ap WithSecurity c.section_of.ensures)
 
 plain : (c : Else-security_first) → (judge false c.args.s.now).number ≡ 0
-plain c =
-    subst (λ (b : Bool). (judge b c.args.s.now).number ≡ 0) c.if-security_first.false
-    (none_told _ _ c.base_judge-judged.ensures c.if-judged-ne-PASSED.false)
+plain c = subst (λ (b : Bool). (judge b c.args.s.now).number ≡ 0) c.if-security_first.false (once-told _ _ c.in_default.ensures).0
 
 pub section_verdicts-verdicts-requires-2 : goal.section_verdicts-verdicts-requires-2
 unfolding header_at
 section_verdicts-verdicts-requires-2 c =
     (behind _ false _ (plain (goal.at.section_verdicts-verdicts-requires-2 c).Else-security_first) c.no_security-header.ensures).fixed
 
-pub section_of-requires-2 : goal.section_of-requires-2
+pub section_of-requires-2-clause-security_value : goal.section_of-requires-2-clause-security_value
 unfolding header_at
-section_of-requires-2 c =
-    record {
-      s_value = plain (goal.at.section_of-requires-2 c).Else-security_first;
-      security_value = c.no_security-header.ensures;
-      verdicts_value = c.section_verdicts-verdicts-2.ensures;
-    }
+section_of-requires-2-clause-security_value c = c.no_security-header.ensures
 
 pub returns : goal.returns
 unfolding reading_case read full_reading

@@ -1,13 +1,13 @@
 -- What is read of an accepted input is what the definitions read (`behind`).
 use Prim.Native.Nat.{ℕ, ◌+◌}
-use mathlib.Core.Path.{◌≡◌, ap, ap₂, ◌∙◌}
+use mathlib.Core.Path.{ap, ap₂, ◌∙◌}
 use native.Mathlib.Omega.{arith}
 use lib.ListN.{drop}
 use Rattle.octets.specs.Number.{le}
 use Rattle.rules.specs.Properties.{properties_fields, properties_parts}
 use Rattle.rules.specs.Reading.{fields_at, start_at, summary_at}
 use Rattle.rules.specs.Security.{part}
-use Rattle.rules.specs.Summary.{section_of, summary_of, verdicts_of}
+use Rattle.rules.specs.Summary.{section_of, summary_of}
 use Rattle.rules.specs.declared.properties.PropertiesFields.{PropertiesFields}
 use Rattle.rules.specs.declared.security.SecurityHeader.{SecurityHeader}
 use Rattle.reading.proofs.Laws.Fields.{Behind, behind}
@@ -20,17 +20,8 @@ place c = behind _ _ _ c.requires.s_value c.requires.security_value
 pub fields_at-properties-requires : goal.fields_at-properties-requires
 fields_at-properties-requires c = (place (goal.at.fields_at-properties-requires c).Start).fixed
 
-verdicts : (c : After-fields_at-properties) →
-    c.args.verdicts ≡ verdicts_of c.args.security.fields c.fields_at-properties.result
-verdicts c = rw c.fields_at-properties.ensures.value c.requires.verdicts_value
-
-pub summary_of-requires : goal.summary_of-requires
-summary_of-requires c =
-    record {
-      verdicts_value = verdicts (goal.at.summary_of-requires c).After-fields_at-properties;
-      properties_sizes = c.fields_at-properties.ensures.properties_sizes;
-      length_bound = omega (arith, (place (goal.at.summary_of-requires c).Start).small);
-    }
+pub summary_of-requires-clause-length_bound : goal.summary_of-requires-clause-length_bound
+summary_of-requires-clause-length_bound c = omega (arith, (place (goal.at.summary_of-requires-clause-length_bound c).Start).small)
 
 pub overflow_add-at : goal.overflow_add-at
 overflow_add-at c = omega (arith, place (goal.at.overflow_add-at c).Start)

@@ -4,7 +4,7 @@ use Rattle.records.proofs.Laws.Decimal.{Putting}
 use Rattle.records.proofs.decimal.put_digits.Given as goal
 
 abbrev pub invariant-loop-rest : goal.invariant-loop-rest
-invariant-loop-rest l = Putting l.n l.first l.left l.rest l.initial.text l.text
+invariant-loop-rest l = Putting l.n l.left l.rest l.initial.text l.text
 
 abbrev pub decreases-loop-rest : goal.decreases-loop-rest
 decreases-loop-rest l = l.rest

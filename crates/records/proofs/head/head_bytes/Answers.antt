@@ -6,11 +6,12 @@ use mathlib.Core.Path.{ap}
 use Rattle.octets.specs.Number.{to_le}
 use Rattle.octets.proofs.Laws.Number.{to_le-mod}
 use Rattle.records.specs.Head.{head_bytes}
+use Rattle.records.proofs.Laws.Head.{first_byte}
 use Rattle.records.proofs.head.head_bytes.Goals as goal
 
 pub returns : goal.returns
 unfolding head_bytes to_le
 returns c =
     let h = c.args.head in
-    rw (c.u32_bytes-length.ensures, c.security_byte-first.ensures)
+    rw (c.u32_bytes-length.ensures, c.from-first.ensures, first_byte h.security_first)
     (ap (λ (bytes : List ℕ). 0x57 ∷ 0x52 ∷ cond h.security_first 1 0 ∷ 0 ∷ bytes) (to_le-mod 4 h.length.0))

@@ -1,15 +1,18 @@
 -- The word is copied to the part of the text that is lent.
-use mathlib.Core.Path.{refl}
-use native.Mathlib.Omega.{arith}
-use lib.ListN.{length}
-use Rattle.octets.proofs.Laws.Over.{copied-lent}
+use mathlib.Core.Path.{sym, ap, ◌∙◌}
+use mathlib.Core.List.{List, ◌++◌}
+use Prim.Native.Nat.{ℕ}
+use lib.ListN.{length, take, drop}
+use lib.Seq.{length-take-le}
+use Rattle.octets.specs.Over.{over}
+use Rattle.octets.proofs.Laws.Over.{copied-whole}
 use Rattle.records.proofs.piece.put_word.Goals as goal
 
-pub returns : goal.returns
-returns c =
-    let a = c.args in
-    let word = a.word.now in
-    let copied = c.copy in record {
-      result_value = refl;
-      text_after = copied-lent a.at.0 (length word) a.text.now (omega arith) word copied.new.out refl copied.ensures;
-    }
+pub returns-clause-text_after : goal.returns-clause-text_after
+unfolding over
+returns-clause-text_after c =
+    let word = c.args.word.now in
+    let out = c.args.text.now in
+    let n = length word in
+    let same = c.copy.ensures ∙ copied-whole word (take n out) (sym (length-take-le n out c.requires)) in
+    ap (λ (l : List ℕ). l ++ drop n out) same

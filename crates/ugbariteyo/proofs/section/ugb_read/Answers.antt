@@ -1,14 +1,16 @@
 -- The case of the reading picks the answer's.
 use mathlib.Core.Path.{◌≡◌, ap, sym, ◌∙◌}
+use Rattle.rules.specs.declared.refusal.Refusal.{Refusal}
+use Rattle.rules.specs.declared.section.Section.{Section}
+use Rattle.std.specs.Prelude.{Result}
 use Rattle.rules.specs.Reading.{read}
-use Rattle.rules.specs.declared.section.Reading.{Reading}
 use Rattle.reading.specs.declared.section.ReadingCase.{ReadingCase}
 use Rattle.reading.proofs.Laws.Case.{case-reading, reading_of}
 use Rattle.ugbariteyo.specs.Section.{reading_answer}
 use Rattle.ugbariteyo.proofs.section.ugb_read.Goals as goal
 use Rattle.ugbariteyo.proofs.section.ugb_read.Goals.{After-reading_case}
 
-answer : After-reading_case → Reading
+answer : After-reading_case → Result Section Refusal
 answer c = let a = c.args in read a.security_first a.s.now
 
 picked : (c : After-reading_case) (k : ReadingCase) → c.reading_case.result ≡ k → answer c ≡ reading_of k

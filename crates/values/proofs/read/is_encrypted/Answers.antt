@@ -4,15 +4,11 @@ use mathlib.Core.Bool.{true}
 use lib.Dec.{eqb}
 use Rattle.rules.specs.Reading.{header_at, security_header, summary_at}
 use Rattle.rules.specs.Security.{EB}
-use Rattle.rules.specs.Summary.{no_security, summary_of}
+use Rattle.rules.specs.Summary.{summary_of}
 use Rattle.rules.specs.declared.security.SecurityFields.{SecurityFields}
 use Rattle.rules.proofs.Laws.Accepted.{judge-passed}
 use Rattle.reading.proofs.Laws.Fields.{security-read}
 use Rattle.values.proofs.read.is_encrypted.Goals as goal
-
-pub returns-then-not-security_first : goal.returns-then-not-security_first
-unfolding header_at no_security
-returns-then-not-security_first c = rw c.if-not-security_first.true
 
 pub returns : goal.returns
 unfolding header_at security_header summary_at summary_of

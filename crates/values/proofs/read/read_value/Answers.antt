@@ -1,5 +1,6 @@
 -- Judging picks the case; past it fields and body are the summary's, and so is EB.
 use Prim.Native.Nat.{ℕ, ◌≤◌}
+use Rattle.std.specs.Prelude.{Ok}
 use mathlib.Core.Path.{ap₂, sym, subst, ◌∙◌}
 use mathlib.Core.Bool.{Bool}
 use mathlib.Core.List.{List}
@@ -12,38 +13,31 @@ use Rattle.rules.specs.Security.{EB}
 use Rattle.rules.specs.Summary.{part_of, summary_of}
 use Rattle.rules.specs.declared.properties.PropertiesFields.{PropertiesFields}
 use Rattle.rules.proofs.Laws.Accepted.{summarize-passed}
-use Rattle.reading.specs.declared.section.Judged.TheVariants.{Passed}
 use Rattle.reading.proofs.Laws.Passed.{Once, fields_told, once-told, start-told}
 use Rattle.reading.proofs.Laws.Fields.{accepted}
-use Rattle.values.specs.Read.{read_value, section_value, value_in}
+use Rattle.values.specs.Read.{value_in}
 use Rattle.values.proofs.Laws.Body.{value-at}
 use Rattle.values.proofs.read.read_value.Goals as goal
-use Rattle.values.proofs.read.read_value.Goals.{In-Passed}
+use Rattle.values.proofs.read.read_value.Goals.{In_ok-at}
 
 -- judging, where every step passed
-told : (c : In-Passed) → let a = c.args in Once a.security_first a.s.now (Passed c.in-Passed.at)
-told c = once-told _ _ (sym c.in-Passed.is ∙ c.judge_once.ensures)
+told : (c : In_ok-at) → let a = c.args in Once a.security_first a.s.now (Ok c.in_ok-at.at)
+told c = once-told _ _ c.in_ok-at.ensures
 
-small : (c : In-Passed) → c.in-Passed.at.0 ≤ limit
+small : (c : In_ok-at) → c.in_ok-at.at.0 ≤ limit
 small c =
     let a = c.args in
     let none = (told c).0 in
     subst (λ (n : ℕ). n ≤ limit) (sym (start-told a.security_first a.s.now none (told c).1))
     (accepted a.security_first a.s.now none).start.small
 
-pub returns-in-Refused : goal.returns-in-Refused
-unfolding read_value section_value
-returns-in-Refused c =
-    let judged = c.judge_once.ensures in
-    rw (once-told _ _ (sym c.in-Refused.is ∙ judged))
-
-pub returns-in-Passed : goal.returns-in-Passed
+pub returns : goal.returns
 unfolding summary_at summary_of
-returns-in-Passed c =
+returns c =
     let a = c.args in
     let s = a.s.now in
     let first = a.security_first in
-    let passed = told (goal.at.returns-in-Passed c).In-Passed in
+    let passed = told (goal.at.returns c).In_ok-at in
     let fields = fields_told first s passed.0 passed.1 c.properties_fields-fields.ensures.value in
     let start = start-told first s passed.0 passed.1 in
     let read = c.properties_fields-fields.result in
@@ -59,11 +53,11 @@ returns-in-Passed c =
 
 pub is_encrypted-encrypted-requires : goal.is_encrypted-encrypted-requires
 is_encrypted-encrypted-requires c =
-    (told (goal.at.is_encrypted-encrypted-requires c).In-Passed).0
+    (told (goal.at.is_encrypted-encrypted-requires c).In_ok-at).0
 
 pub body_at-requires : goal.body_at-requires
 body_at-requires c =
     record {
       properties_sizes = c.properties_fields-fields.ensures.properties_sizes;
-      at_le_limit = small (goal.at.body_at-requires c).In-Passed;
+      at_le_limit = small (goal.at.body_at-requires c).In_ok-at;
     }

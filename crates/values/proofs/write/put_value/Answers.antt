@@ -2,30 +2,20 @@
 use mathlib.Core.Path.{ap, sym, ◌∙◌}
 use Rattle.octets.specs.Number.{to_le}
 use Rattle.octets.proofs.Laws.Number.{to_le-mod}
-use Rattle.values.proofs.Laws.Write.{eight-bytes, four_bytes, value-copied}
+use Rattle.values.specs.Value.{size_of}
+use Rattle.values.proofs.Laws.Value.{narrow, wide}
+use Rattle.values.proofs.Laws.Write.{bytes-of, value-copied}
 use Rattle.values.proofs.write.put_value.Goals as goal
 
-pub returns-then-body_type-eq-VT_R8 : goal.returns-then-body_type-eq-VT_R8
-returns-then-body_type-eq-VT_R8 c =
+pub returns-in-R8 : goal.returns-in-R8
+returns-in-R8 c =
     let v = c.args.value in
-    let type = c.body_type.ensures in
-    let bits = c.bits-bits.ensures in
-    c.copy.ensures
-    ∙ value-copied v _ c.args.out.now
-    (c.u64_bytes-bytes.ensures
-    ∙ ap (to_le 8) bits
-    ∙ eight-bytes v (sym type ∙ c.if-body_type-eq-VT_R8.true))
-    c.requires
+    let size = sym (ap size_of c.kind.ensures) ∙ wide c.kind.result c.in-R8.is in
+    c.copy.ensures ∙ value-copied v _ c.args.out.now (c.u64_bytes.ensures ∙ ap (to_le 8) c.bits-bits.ensures ∙ bytes-of v 8 size) c.requires
 
-pub returns : goal.returns
-returns c =
+pub returns-in_default : goal.returns-in_default
+returns-in_default c =
     let v = c.args.value in
-    let type = c.body_type.ensures in
-    let bits = c.bits-bits.ensures in
-    c.copy-2.ensures
-    ∙ value-copied v _ c.args.out.now
-    (c.u32_bytes-bytes.ensures
-    ∙ to_le-mod 4 _
-    ∙ ap (to_le 4) bits
-    ∙ four_bytes v (λ e. c.if-body_type-eq-VT_R8.false (type ∙ e)))
-    c.requires
+    let size = sym (ap size_of c.kind.ensures) ∙ narrow c.kind.result c.in_default.not-R8 in
+    let bytes = c.u32_bytes.ensures ∙ to_le-mod 4 _ ∙ ap (to_le 4) c.bits-bits.ensures ∙ bytes-of v 4 size in
+    c.copy-in_default.ensures ∙ value-copied v _ c.args.out.now bytes c.requires

@@ -8,7 +8,6 @@ use Rattle.octets.specs.Padding.{padded}
 use Rattle.octets.specs.Over.{over}
 use Rattle.octets.proofs.Laws.Over.{copied-fits, written-first, written-zeros}
 use Rattle.writing.specs.Writing.{padded_part}
-use borrow.Author.Rules.{rules}
 use Rattle.writing.proofs.part.write_padded_part.Goals as goal
 
 pub returns : goal.returns
@@ -24,28 +23,3 @@ returns c =
       result_value = omega arith;
       out_after = w2.bytes ∙ ap (λ (n : ℕ). over (part ++ replicate n 0) out) pad.ensures;
     }
-
-pub padding-zeros-requires : goal.padding-zeros-requires
-unfolding padded
-padding-zeros-requires c =
-    search rules
-
-pub copy-requires : goal.copy-requires
-unfolding padded
-copy-requires c =
-    search rules
-
-pub zero-requires : goal.zero-requires
-unfolding padded
-zero-requires c =
-    search rules
-
-pub overflow_add-size : goal.overflow_add-size
-unfolding padded
-overflow_add-size c =
-    omega arith
-
-pub slice_bounds-zero-end : goal.slice_bounds-zero-end
-unfolding padded
-slice_bounds-zero-end c =
-    omega arith

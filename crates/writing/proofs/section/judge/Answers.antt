@@ -1,48 +1,63 @@
--- The first number that is not 0, at the header whose step it is.
+-- The first step that fails, at the header whose step it is.
 use Prim.Native.Nat.{ℕ, ◌+◌, min}
-use mathlib.Core.Path.{◌≡◌, ap, sym, ◌∙◌}
-use mathlib.Core.List.{[]}
+use mathlib.Core.Path.{◌≡◌, refl, sym, ap, ◌∙◌}
 use native.Mathlib.Omega.{arith}
-use borrow.Author.Tests.{eq-eqb, ne_eqb}
 use Rattle.rules.specs.Place.{header_refusal}
-use Rattle.rules.specs.Refusal.{bytes, limit}
+use Rattle.rules.specs.Refusal.{judged_of, limit, number_of, refusal}
 use Rattle.rules.specs.declared.security.SecurityFields.{SecurityFields}
-use Rattle.writing.specs.Given.{Given, given, properties_from, security_given}
-use Rattle.writing.specs.Writing.{base_judge_given, end_number, header_number, start_of}
+use Rattle.rules.proofs.Laws.Cause.{told-0}
+use Rattle.writing.specs.Given.{Given, lent, properties_given, security_given}
+use Rattle.writing.specs.Writing.{base_judge_given, base_write_refusal, end_number, header_number, start_of}
 use Rattle.writing.proofs.Laws.Placed.{header-start}
 use Rattle.writing.proofs.section.judge.Goals as goal
-use Rattle.writing.proofs.section.judge.Goals.{After-header_number-number}
+use Rattle.writing.proofs.section.judge.Goals.{After-properties_number}
 
--- the SecurityHeader that is judged
-abbrev section : After-header_number-number → Given
-section c =
-    let a = c.args in
-    given a.values a.sender_id.now a.encryption_key.now a.signature.now a.sender_cert.now a.provider_info.now [] [] []
+-- the number of the steps on the SecurityHeader, and where the other header begins
+abbrev header : Given → ℕ
+header g = header_number g.values.security_first (security_given g) g.sender_id g.provider_info
 
-number-told : (c : After-header_number-number)
-    → let g = section c in
-    c.header_number-number.result ≡ header_number c.args.values.security_first (security_given g) g.sender_id g.provider_info
-number-told c =
-    let g = section c in
-    c.header_number-number.ensures
-    ∙ ap (λ (f : SecurityFields). header_number c.args.values.security_first f g.sender_id g.provider_info)
-    c.security_given-security.ensures
+abbrev start : Given → ℕ
+start g = start_of g.values.security_first (security_given g)
 
-pub returns-then-number-ne-PASSED : goal.returns-then-number-ne-PASSED
-unfolding base_judge_given header_refusal
-returns-then-number-ne-PASSED c = let n = number-told (goal.at.returns-then-number-ne-PASSED c).After-header_number-number in rw (← n, ne_eqb _ 0 c.if-number-ne-PASSED.true)
+header-told : (g : Given) (f : SecurityFields) (n : ℕ) → f ≡ security_given g
+    → n ≡ header_number g.values.security_first f g.sender_id g.provider_info → n ≡ header g
+header-told g f n made e = e ∙ ap (λ (f : SecurityFields). header_number g.values.security_first f g.sender_id g.provider_info) made
 
-pub returns : goal.returns
-unfolding base_judge_given header_refusal
-returns c =
-    let a = c.args in
-    let g = section (goal.at.returns c).After-header_number-number in
-    let first = a.values.security_first in
-    let none = sym (number-told (goal.at.returns c).After-header_number-number) ∙ c.if-number-ne-PASSED.false in
-    let small = header-start first g none in
+none : (c : After-properties_number) → header (lent c.args.given.now) ≡ 0
+unfolding number_of
+none c = sym (header-told (lent c.args.given.now) _ _ c.security_given-security.ensures c.header_number.ensures) ∙ ap number_of c.in_default.is
+
+started : (c : After-properties_number) → c.properties_start-at.result.0 ≡ start (lent c.args.given.now)
+started c =
+    let g = lent c.args.given.now in
+    let first = g.values.security_first in
     let told = c.properties_start-at.ensures
     ∙ ap (λ (f : SecurityFields). min (limit + 1) (start_of first f)) c.security_given-security.ensures in
-    let at : c.properties_start-at.result.0 ≡ start_of first (security_given g) = omega (arith, told, small) in
-    let number = c.properties_number.ensures
-    ∙ ap (λ (p : ℕ). end_number p (properties_from a.values a.label.now a.extension.now a.body.now) a.label.now) at in
-    rw (eq-eqb _ 0 none) (λ i. record { number = number i; place = bytes (at i) })
+    omega (arith, told, header-start first g (none c))
+
+-- where the SecurityHeader passes, the number and the place of the other
+judged : (c : After-properties_number)
+    → refusal (number_of c.properties_number.result) c.properties_start-at.result.0 ≡ base_write_refusal (lent c.args.given.now)
+unfolding base_judge_given header_refusal
+judged c =
+    let g = lent c.args.given.now in
+    let number = c.properties_number.ensures ∙ ap (λ (p : ℕ). end_number p (properties_given g) g.label) (started c) in
+    rw (number, started c, none c) refl
+
+pub returns-in-Err : goal.returns-in-Err
+unfolding base_judge_given header_refusal judged_of number_of
+returns-in-Err c =
+    let told = sym (header-told (lent c.args.given.now) _ _ c.security_given-security.ensures c.header_number.ensures) ∙ ap number_of c.in-Err.is in
+    rw (told, told-0 c.in-Err.cause) refl
+
+pub returns-in-Ok : goal.returns-in-Ok
+unfolding judged_of number_of
+returns-in-Ok c =
+    let n = ap number_of c.in-Ok.is in
+    rw (← n) (judged (goal.at.returns-in-Ok c).After-properties_number)
+
+pub returns-in-Err-properties_number : goal.returns-in-Err-properties_number
+unfolding judged_of number_of
+returns-in-Err-properties_number c =
+    let n = ap number_of c.in-Err-properties_number.is in
+    rw (← n) (judged (goal.at.returns-in-Err-properties_number c).After-properties_number)

@@ -1,5 +1,6 @@
 -- 13 is tested against the length of the layout, and the section has that length.
 use Prim.Native.Nat.{ℕ, ◌+◌, min}
+use Rattle.std.specs.Prelude.{Ok, Result}
 use mathlib.Core.Path.{◌≡◌, sym, ap, subst, ◌∙◌}
 use native.Mathlib.Omega.{arith}
 use Rattle.octets.specs.declared.count.Bytes.{Bytes}
@@ -8,22 +9,13 @@ use Rattle.rules.specs.Properties.{properties_length}
 use Rattle.rules.specs.Refusal.{bytes, limit, refusal}
 use Rattle.rules.specs.declared.properties.PropertiesFields.{PropertiesFields}
 use Rattle.rules.specs.declared.refusal.Refusal.{Refusal}
-use Rattle.rules.specs.declared.section.Output.{Output}
-use Rattle.rules.specs.declared.section.Output.TheVariants.{Written}
 use Rattle.rules.proofs.Laws.Output.{answer-short, answer-written}
-use Rattle.writing.specs.Given.{Given, held, properties_given, security_given}
+use Rattle.writing.specs.Given.{Given, lent, properties_given, security_given}
 use Rattle.writing.specs.Laid.{SectionLaid}
 use Rattle.writing.specs.Writing.{base_write_refusal, layout_length, section_bytes, start_of, write_answer, write_bytes, write_refusal}
 use Rattle.writing.proofs.Laws.Laid.{label_small, section-laid}
 use Rattle.writing.proofs.Laws.Placed.{section-placed, start-placed, write-number}
 use Rattle.writing.proofs.section.write_judged.Goals as goal
-use Rattle.writing.proofs.section.write_judged.Goals.{Start}
-
--- the section that is to be written
-abbrev section : Start → Given
-section c =
-    let a = c.args in
-    held a.values a.sender_id a.encryption_key a.signature a.sender_cert a.provider_info a.label a.extension a.body
 
 -- no step refuses it
 passed : (g : Given) (start : ℕ) → base_write_refusal g ≡ refusal 0 start → (write_refusal g).number ≡ 0
@@ -44,19 +36,19 @@ ended g start end f e given e2 =
 pub returns-then-out-length : goal.returns-then-out-length
 unfolding write_answer write_bytes writer_output
 returns-then-out-length c =
-    let g = section (goal.at.returns-then-out-length c).Start in
+    let g = lent c.args.given.now in
     let at = c.args.start.0 in
     let out = c.args.out.now in
     let end = ended g at _ _ c.requires c.properties_given.ensures c.section_end-length.ensures in
     let short = answer-short (write_refusal g) (layout_length g) out (passed g at c.requires) (omega (arith, end)) in
     let answer : c.output_short.result ≡ write_answer g out = c.output_short.ensures ∙ short in record {
       value = answer;
-      out_after = ap (λ (a : Output). writer_output a (section_bytes g) out) (sym c.output_short.ensures ∙ answer);
+      out_after = ap (λ (a : Result Bytes Refusal). writer_output a (section_bytes g) out) (sym c.output_short.ensures ∙ answer);
     }
 
 pub write_headers-requires : goal.write_headers-requires
 write_headers-requires c =
-    let g = section (goal.at.write_headers-requires c).Start in
+    let g = lent c.args.given.now in
     let at = c.args.start.0 in
     let out = c.args.out.now in
     let end = ended g at _ _ c.requires c.properties_given.ensures c.section_end-length.ensures in
@@ -66,17 +58,17 @@ write_headers-requires c =
 pub returns : goal.returns
 unfolding write_answer write_bytes writer_output
 returns c =
-    let g = section (goal.at.returns c).Start in
+    let g = lent c.args.given.now in
     let at = c.args.start.0 in
     let out = c.args.out.now in
     let end = ended g at _ _ c.requires c.properties_given.ensures c.section_end-length.ensures in
     let length : ◌≡◌ {A = Bytes} c.section_end-length.result (bytes (layout_length g)) = λ i. record { 0 = end i } in
     let answer = answer-written (write_refusal g) (layout_length g) out (passed g at c.requires) (omega (arith, end)) in record {
-      value = ap Written length ∙ answer;
-      out_after = c.write_headers.ensures ∙ ap (λ (a : Output). writer_output a (section_bytes g) out) answer;
+      value = ap Ok length ∙ answer;
+      out_after = c.write_headers.ensures ∙ ap (λ (a : Result Bytes Refusal). writer_output a (section_bytes g) out) answer;
     }
 
 pub properties_given-requires : goal.properties_given-requires
 properties_given-requires c =
-    let g = section (goal.at.properties_given-requires c).Start in
+    let g = lent c.args.given.now in
     label_small g ((section-placed g).0 (passed g c.args.start.0 c.requires)).properties

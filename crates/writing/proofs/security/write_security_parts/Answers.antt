@@ -1,5 +1,5 @@
 -- Each padded part is written where the one before it ends.
-use Prim.Native.Nat.{ℕ, ◌+◌, ◌-◌, ◌^◌, ◌≤◌, ◌<◌}
+use Prim.Native.Nat.{ℕ, ◌+◌, ◌-◌, ◌≤◌}
 use mathlib.Core.Path.{◌≡◌, sym, ap, ◌∙◌}
 use mathlib.Core.List.{List, ◌++◌}
 use native.Mathlib.Omega.{arith}
@@ -13,35 +13,22 @@ use Rattle.writing.proofs.Laws.Row.{length-padded_part}
 use Rattle.writing.proofs.security.write_security_parts.Goals as goal
 use Rattle.writing.proofs.security.write_security_parts.Goals.{After-write_padded_part-3, After-write_padded_part-key_at}
 
-short : (c : After-write_padded_part-key_at) → length c.args.out.now < 2 ^ 64
-short c = omega arith
-
 -- the next padded part, written to a lent rest of the output
 part-next : {p out now : List ℕ} {end : ℕ} (at : ℕ) (part later : List ℕ) → Written p out end now → at ≡ end → at ≤ length out
     → later ≡ over (padded_part part) (take (length now - at) (drop at now))
     → Written (p ++ padded_part part) out (at + padded 4 (length part)) (take at now ++ (later ++ drop (length now - at) (drop at now)))
 part-next at part later w a h e = written-rest at (padded 4 (length part)) (padded_part part) later w a (length-padded_part part) h e
 
--- how far the first four parts reach
-reach : (c : After-write_padded_part-3)
-    → let a = c.args in
-    (c.write_padded_part-key_at.result.0 + c.write_padded_part.result.0 + c.write_padded_part-2.result.0
-    + c.write_padded_part-3.result.0)
-    + padded 4 (length a.provider_info.now)
-    ≤ length a.out.now
-reach c =
-    omega (arith, c.requires)
-
 pub returns : goal.returns
 unfolding security_parts_bytes
 returns c =
     let a = c.args in
     let h = c.requires in
-    let identity = a.sender_id.now in
-    let key = a.encryption_key.now in
-    let signature = a.signature.now in
-    let cert = a.sender_cert.now in
-    let provider = a.provider_info.now in
+    let identity = a.given.now.sender_id.now in
+    let key = a.given.now.encryption_key.now in
+    let signature = a.given.now.signature.now in
+    let cert = a.given.now.sender_cert.now in
+    let provider = a.given.now.provider_info.now in
     let c1 = c.write_padded_part-key_at in
     let c2 = c.write_padded_part in
     let c3 = c.write_padded_part-2 in
@@ -62,7 +49,3 @@ returns c =
     let w5 = part-next (r1 + r2 + r3 + r4) provider c5.new.out w4 (omega arith) (omega (arith, h)) c5.ensures.out_after in
     let row = five (padded_part identity) (padded_part key) (padded_part signature) (padded_part cert) (padded_part provider) in
     w5.bytes ∙ ap (λ (bs : List ℕ). over bs a.out.now) row
-
-pub overflow_add-provider_at : goal.overflow_add-provider_at
-overflow_add-provider_at c =
-    omega (arith, reach (goal.at.overflow_add-provider_at c).After-write_padded_part-3, short (goal.at.overflow_add-provider_at c).After-write_padded_part-key_at)

@@ -1,5 +1,5 @@
 -- C-15: what holds of a day's file that is read in a single call.
-use Rattle.std.specs.Prelude.{Result, ℕ, suc, ◌+◌, ◌*◌, ◌<◌, ◌≤◌, ◌≡◌, Bool, ◌⊎◌, ◌↔◌, List, [], ◌∷◌, ◌++◌, map, length, take, drop}
+use Rattle.std.specs.Prelude.{Result, ℕ, suc, ◌+◌, ◌*◌, ◌<◌, ◌≤◌, ◌≡◌, Bool, ◌⊎◌, ◌↔◌, List, [], ◌∷◌, ◌++◌, map, length, get_or, take, drop}
 use Rattle.days.specs.declared.answer.DayRefusal.{DayRefusal}
 use Rattle.days.specs.declared.answer.Records.{Records}
 use Rattle.records.specs.declared.record.Line.{Line}
@@ -68,5 +68,5 @@ pub record OneCall : Type 0 where
       → records_of (file_of xs rest) ≡ record { answers = map alone xs ++ (records_of rest).answers; stops = (records_of rest).stops }
   -- a slot holds its answer whole, and is not all zero: there is a number, or a section's length
   pub told : (x : Held) → answer_in (slot_of (alone x)) ≡ alone x
-  pub some : (x : Held) → (0 < (slot_of (alone x)).number) ⊎ (56 ≤ (slot_of (alone x)).section_length.0)
+  pub some : (x : Held) → (0 < get_or (slot_of (alone x)).0 0 0) ⊎ (56 ≤ get_or (slot_of (alone x)).0 6 0)
   pub called : (file : List ℕ) (table : List Slot) → Called file table

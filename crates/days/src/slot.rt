@@ -1,45 +1,53 @@
-// A slot of the table: the values of a record's listing line.
+// A slot of the table: the values of a record's listing line, each at its place.
 ghost use Rattle.std.specs.Prelude.{◌≡◌};
 ghost use Rattle.days.specs.Slot.{slot_of};
 
-use octets::count::Bytes;
 use records::record::Line;
 use rules::refusal::Refusal;
 
-// Seven counts, the bytes that C has (its first two are a refusal there, and no byte is left between them). Of a refused
-// section number and place are the refusal, and the others 0; of an accepted one those two are 0, and the others the
-// listing's columns.
+// The values of a refused section: the refusal. They are 0 where it is accepted.
+pub const NUMBER: usize = 0;
+
+pub const PLACE: usize = 1;
+
+// The values of an accepted section: the listing's columns. They are 0 where it is refused.
+pub const MESSAGE_CLASS: usize = 2;
+
+pub const LABEL_LENGTH: usize = 3;
+
+pub const EXTENSION_SIZE: usize = 4;
+
+pub const MESSAGE_SIZE: usize = 5;
+
+pub const SECTION_LENGTH: usize = 6;
+
+// How many values a slot has.
+pub const VALUES: usize = 7;
+
+// Seven counts, the bytes that C has (its first two are a refusal there, and no byte is left between them). Told by their
+// places and not by name, since the places are what C reads: so the order is promised too.
 #[repr(C)]
 #[derive(Clone, Copy, Default)]
-pub struct Slot {
-    pub number: usize,
-    pub place: Bytes,
-    pub message_class: usize,
-    pub label_length: usize,
-    pub extension_size: Bytes,
-    pub message_size: Bytes,
-    pub section_length: Bytes,
-}
+pub struct Slot(pub [usize; VALUES]);
 
 // What a record's answer leaves in its slot.
 #[tactic(auto, unfolding(crate::specs::Slot::slot_of, crate::specs::Slot::accepted_slot, crate::specs::Slot::refused_slot))]
 pub fn slot_of(answer: Result<Line, Refusal>) -> Slot
     ensures { result ≡ slot_of answer }
 {
+    let mut values = [0; VALUES];
     match answer {
-        Ok(line) => Slot {
-            number: 0,
-            place: Bytes(0),
-            message_class: line.message_class as usize,
-            label_length: line.label_length.0 as usize,
-            extension_size: line.extension_size,
-            message_size: line.message_size,
-            section_length: line.section_length,
-        },
-        Err(refusal) => Slot {
-            number: refusal.number as usize,
-            place: refusal.place,
-            ..Slot::default()
-        },
+        Ok(line) => {
+            values[MESSAGE_CLASS] = line.message_class as usize;
+            values[LABEL_LENGTH] = line.label_length.0 as usize;
+            values[EXTENSION_SIZE] = line.extension_size.0;
+            values[MESSAGE_SIZE] = line.message_size.0;
+            values[SECTION_LENGTH] = line.section_length.0;
+        }
+        Err(refusal) => {
+            values[NUMBER] = refusal.number as usize;
+            values[PLACE] = refusal.place.0;
+        }
     }
+    Slot(values)
 }

@@ -19,24 +19,14 @@ pub record DayExample : Type 0 where
 
 -- a slot's seven numbers, in their order
 unfoldable pub numbers_in : Slot → List ℕ
-numbers_in x =
-    x.number ∷ x.place.0 ∷ x.message_class ∷ x.label_length ∷ x.extension_size.0 ∷ x.message_size.0 ∷ x.section_length.0 ∷ []
+numbers_in x = x.0
 
 -- a slot as it was
-unfoldable pub lent_slot : Slot
-lent_slot =
-    record {
-      number = 9;
-      place = bytes 9;
-      message_class = 9;
-      label_length = 9;
-      extension_size = bytes 9;
-      message_size = bytes 9;
-      section_length = bytes 9;
-    }
-
 unfoldable pub kept : List ℕ
 kept = replicate 7 9
+
+unfoldable pub lent_slot : Slot
+lent_slot = record { 0 = kept }
 
 -- a file read into a table of so many slots
 abbrev pub gives : List ℕ → ℕ → List ℕ → List (List ℕ) → DayExample

@@ -62,16 +62,15 @@ fn is_of_header(refused: Refusal) -> bool
     ensures { result ≡ of_header refused }
 {
     let number = refused.number;
-    let is_provider_size = (number == Cause::Provider.number()) & (refused.place.0 == 0);
-    (number == Cause::InputShort.number())
-        | (number == Cause::AboveTheLimit.number())
-        | is_provider_size
+    number == Cause::InputShort.number()
+        || number == Cause::AboveTheLimit.number()
+        || (number == Cause::Provider.number() && refused.place.0 == 0)
 }
 
 fn header_at(security_first: bool, place: Bytes) -> FieldAt
     ensures { result ≡ cond (security_first && eqb place.0 0) (field 34 0) (field 35 0) }
 {
-    if security_first & (place.0 == 0) {
+    if security_first && place.0 == 0 {
         return FieldAt::new(field::SECURITY_HEADER, Bytes(0));
     }
     FieldAt::new(field::MESSAGE_PROPERTIES_HEADER, Bytes(0))

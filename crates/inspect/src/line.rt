@@ -6,15 +6,21 @@ use octets::count::Bytes;
 use octets::part::within;
 use rules::section::Part;
 use std::fmt::{Display, Write};
+use streams::text::Text;
 
 impl Page {
     pub(crate) fn number<N: Display + Drop>(&mut self, name: &str, n: N) {
         let _ = writeln!(self, "{name}{n}");
     }
 
-    // In hexadecimal, of at least so many digits.
+    // In hexadecimal, of at least so many digits. (In one piece: std writes the zeros before a number one by one, and a page
+    // would be cut among them.)
     pub(crate) fn code(&mut self, name: &str, n: u32, width: usize) {
-        let _ = writeln!(self, "{name}0x{n:0width$x}");
+        let mut digits = Text::empty();
+        let _ = write!(digits, "{n:0width$x}");
+        let _ = write!(self, "{name}0x");
+        self.piece(digits.as_bytes());
+        self.piece(b"\n");
     }
 
     pub(crate) fn yes_or_no(&mut self, name: &str, is_so: bool) {

@@ -4,12 +4,15 @@ ghost use Rattle.octets.specs.Over.{copied, moved_to_front};
 
 use crate::count::Bytes;
 
-// Over the output's first bytes, as many as both hold.
+// Over the output's first bytes, as many as both hold. (Where that is none, no move is called for: most portions bring
+// nothing of most windows.)
 pub fn copy(s: &[u8], out: &mut [u8])
     ensures { out.new ≡ copied s.now out.old }
 {
     let n = s.len().min(out.len());
-    out[..n].copy_from_slice(&s[..n]);
+    if n != 0 {
+        out[..n].copy_from_slice(&s[..n]);
+    }
 }
 
 // The bytes from `start` to `end` over the buffer's first bytes. Where they do not all lie in the buffer it stays as it is.

@@ -1,5 +1,6 @@
 pub mod Answer
 pub mod Call
+pub mod Case
 pub mod Gathered
 pub mod Header
 pub mod Judge

@@ -7,7 +7,9 @@ ghost use Rattle.rules.specs.Row.{row_bits};
 ghost use Rattle.rules.specs.Security.{provider_at, security_length};
 ghost use Rattle.support.specs.Laid.{PropertiesLaid, SecurityLaid};
 
-use crate::run::{hide, is_hidden, is_hidden_long, is_kept, is_low_four, keep, low_four};
+use crate::run::{
+    hide, is_hidden, is_hidden_long, is_kept, is_kept_long, is_low_four, keep, low_four,
+};
 use octets::count::{Bytes, smaller};
 use octets::padding::padding;
 use rules::properties::PropertiesFields;
@@ -79,7 +81,7 @@ pub(crate) fn is_security_copy(
         & is_kept(s, proposed, Bytes(2), Bytes(14))
         & is_kept(s, proposed, Bytes(16), identity)
         & is_hidden_long(proposed, Bytes(hidden), Bytes(provider.0 - hidden))
-        & is_kept(s, proposed, provider, info)
+        & is_kept_long(s, proposed, provider, info)
         & is_hidden(proposed, Bytes(padding), Bytes(size.0 - padding))
 }
 
@@ -113,7 +115,7 @@ fn is_head_copy(s: &[u8], label: Bytes, proposed: &[u8]) -> bool
         & is_kept(s, proposed, Bytes(24), Bytes(4))
         & is_hidden(proposed, Bytes(28), Bytes(4))
         & is_kept(s, proposed, Bytes(32), Bytes(24))
-        & is_kept(s, proposed, Bytes(56), label)
+        & is_kept_long(s, proposed, Bytes(56), label)
 }
 
 // Extension and body may be long: they are looked at only where the rest is right.

@@ -6,7 +6,7 @@ ghost use Rattle.rules.specs.Judged.{masked};
 
 use octets::count::Bytes;
 use octets::over::{copy, zero};
-use octets::same::{all_zero, all_zero_long, same};
+use octets::same::{all_zero, all_zero_long, same, same_long};
 
 pub(crate) fn keep(s: &[u8], out: &mut [u8], at: Bytes, n: Bytes)
     requires n_in_bounds { at.0 + n.0 ≤ length s.now }
@@ -26,6 +26,17 @@ pub(crate) fn is_kept(s: &[u8], proposed: &[u8], at: Bytes, n: Bytes) -> bool
     let start = at.0;
     let end = start + n.0;
     same(&s[start..end], &proposed[start..end])
+}
+
+// The same, for many bytes, as `same_long` is.
+pub(crate) fn is_kept_long(s: &[u8], proposed: &[u8], at: Bytes, n: Bytes) -> bool
+    requires n_in_bounds { at.0 + n.0 ≤ length s.now }
+    requires n_in_bounds_2 { at.0 + n.0 ≤ length proposed.now }
+    ensures { (result ≡ true) ↔ (take n.0 (drop at.0 proposed.now) ≡ masked (replicate n.0 8) (drop at.0 s.now)) }
+{
+    let start = at.0;
+    let end = start + n.0;
+    same_long(&s[start..end], &proposed[start..end])
 }
 
 pub(crate) fn low_four(s: &[u8], out: &mut [u8], at: Bytes)

@@ -23,15 +23,15 @@ use rules::security;
 
 // 62, 60, 61: the kind of a body of so many bytes, which may be encrypted.
 #[tactic(auto, unfolding(crate::specs::Read::value_steps, rules::specs::Refusal::number_of, rules::specs::Refusal::number))]
-fn kind_in(encrypted: bool, body_type: u32, size: usize) -> Result<Kind, Cause>
-    ensures steps { number_of result ≡ value_steps encrypted body_type size }
+fn kind_in(encrypted: bool, body_type: u32, size: Bytes) -> Result<Kind, Cause>
+    ensures steps { number_of result ≡ value_steps encrypted body_type size.0 }
     ensures kind { IfOk result (λ k. type_of k ≡ body_type) }
 {
     if encrypted {
         return Err(Cause::BodyEncrypted);
     }
     let kind = Kind::try_from(body_type)?;
-    if size != kind.size().0 {
+    if size.0 != kind.size().0 {
         return Err(Cause::BodySize);
     }
     Ok(kind)
@@ -54,7 +54,7 @@ fn body_bits(kind: Kind, body: &[u8]) -> u64
 fn value_in(encrypted: bool, body_type: u32, body: &[u8]) -> Result<BodyValue, Refusal>
     ensures { result ≡ value_in encrypted body_type (length body.now) body.now }
 {
-    match kind_in(encrypted, body_type, body.len()) {
+    match kind_in(encrypted, body_type, Bytes(body.len())) {
         Ok(kind) => Ok(value_from(kind, body_bits(kind, body))),
         Err(cause) => Err(Refusal::at_start(cause)),
     }

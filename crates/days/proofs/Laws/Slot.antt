@@ -9,6 +9,7 @@ use mathlib.Core.Logic.{◌⊎◌, inl, inr}
 use mathlib.Core.List.{List}
 use native.Mathlib.Omega.{arith}
 use borrow.Author.Tests.{eqb-false}
+use lib.ListN.{get_or}
 use lib.Dec.{eqb}
 use Rattle.octets.proofs.Laws.Padding.{le-padded}
 use Rattle.rules.specs.Properties.{label_bytes, properties_length, properties_parts}
@@ -29,12 +30,12 @@ slot-told first s = go (eqb (judge first s).number 0) refl
 
 -- and is not all zero: a section has at least its fixed bytes
 pub slot-some : (first : Bool) (s : List ℕ)
-    → let slot = slot_of (answer_of (summarize first s)) in (0 < slot.number) ⊎ (56 ≤ slot.section_length.0)
+    → let slot = slot_of (answer_of (summarize first s)) in (0 < get_or slot.0 0 0) ⊎ (56 ≤ get_or slot.0 6 0)
 unfolding summarize answer_of slot_of accepted_slot refused_slot summary_at summary_of properties_parts properties_length
 slot-some first s = go (eqb (judge first s).number 0) refl
   where
     go : (b : Bool) → eqb (judge first s).number 0 ≡ b
-        → let slot = slot_of (answer_of (summarize first s)) in (0 < slot.number) ⊎ (56 ≤ slot.section_length.0)
+        → let slot = slot_of (answer_of (summarize first s)) in (0 < get_or slot.0 0 0) ⊎ (56 ≤ get_or slot.0 6 0)
     go true e =
         let f = fields_at first s in
         let size = 56 + label_bytes f + f.extension_size.0 + f.message_size.0 in

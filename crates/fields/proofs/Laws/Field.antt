@@ -15,7 +15,7 @@ use Rattle.rules.specs.Refusal.{bytes}
 use Rattle.fields.specs.Theorems.{total}
 
 -- the field at hand, or the next
-field_step : (n : ℕ) (ws : List ℕ) (i at : ℕ) → i < length ws
+pub field_step : (n : ℕ) (ws : List ℕ) (i at : ℕ) → i < length ws
     → field_in n (drop i ws) at ≡ cond (ltb at (get_or ws i 0)) (field n at) (field_in (suc n) (drop (suc i) ws) (at - get_or ws i 0))
 unfolding field_in
 field_step n ws i at l = ap (λ (vs : List ℕ). field_in n vs at) (drop-cons ws i 0 l)

@@ -2,7 +2,7 @@
 use Prim.Native.Nat.{ℕ, zero, suc, ◌+◌, ◌*◌, ◌/◌, ◌%◌, ◌^◌, ◌≤◌, ◌<◌}
 use mathlib.Core.Path.{◌≡◌, refl, ap}
 use mathlib.Core.List.{List, [], ◌∷◌, ◌++◌}
-use native.Mathlib.Nat.{pow-suc, add-zero, zero-add, suc-add, add_assoc, mul_assoc, mul_comm}
+use native.Mathlib.Nat.{pow-zero, pow-suc, add-zero, zero-add, suc-add, add_assoc, mul_assoc, mul_comm, div-one, div-div-eq-div-mul}
 use lib.Arith.{mod-mul}
 use native.Mathlib.Omega.{arith}
 use lib.ListN.{length, get_or, take, drop, get_or-eq_default}
@@ -76,6 +76,13 @@ pub length-to_le : (w n : ℕ) → length (to_le w n) ≡ w
 unfolding to_le
 length-to_le zero n = refl
 length-to_le (suc w) n = ap suc (length-to_le w (n / 256))
+
+-- the bytes of a number in v + w bytes are those in v, and those of the rest of it in w behind them
+pub to_le-add : (v w n : ℕ) → to_le (v + w) n ≡ to_le v n ++ to_le w (n / 256 ^ v)
+unfolding to_le
+to_le-add zero w n = rw (zero-add w, pow-zero 256, div-one n)
+to_le-add (suc v) w n =
+    rw (suc-add v w, to_le-add v w (n / 256), div-div-eq-div-mul n 256 (256 ^ v), mul_comm 256 (256 ^ v), ← pow-suc 256 v)
 
 pow_pos : (w : ℕ) → 0 < 256 ^ w
 pow_pos zero = omega arith

@@ -31,7 +31,7 @@ Told first s (Err f) = ¬ ((judge first s).number ≡ 0)
 
 module _ (first : Bool) (s : List ℕ) where
   -- where no step fails, the place is where the MessagePropertiesHeader begins
-  place-told : (base_judge first s).number ≡ 0 → (base_judge first s).place ≡ bytes (start_at first s)
+  pub place-told : (base_judge first s).number ≡ 0 → (base_judge first s).place ≡ bytes (start_at first s)
   unfolding base_judge header_refusal
   place-told e = rw (eq-eqb _ 0 ((number_passed _ _ _).0 e).0)
 

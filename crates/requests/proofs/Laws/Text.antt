@@ -60,7 +60,7 @@ before_zero-place us = rw (before_zero-position us) (go (dec_lt (length (before_
     go (no l) = rw (le-ltb (length (before_zero us)) (length us) (omega arith)) (omega (arith, before_zero-most us))
 
 -- what is cut first does not matter
-first-before_zero : (n : ℕ) (us : List ℕ) → before_zero (take n us) ≡ take n (before_zero us)
+pub first-before_zero : (n : ℕ) (us : List ℕ) → before_zero (take n us) ≡ take n (before_zero us)
 unfolding before_zero
 first-before_zero zero us = refl
 first-before_zero (suc n) [] = refl

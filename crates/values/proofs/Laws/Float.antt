@@ -7,7 +7,7 @@ use lib.Ieee.{Float, Format, fits, is_nan, nan_bits, of_bits, to_bits, top}
 use lib.Ieee.Bits.{is_true, nan_bits_above, nan_bits_is, of_bits-fits, of_bits-to_bits, to_bits-lt, to_bits-of_bits}
 
 -- a test that failed, as the language's calls ask for it
-fails : (b : Bool) → b ≡ false → T (not b)
+pub fails : (b : Bool) → b ≡ false → T (not b)
 fails b e = subst (λ (x : Bool). T (not x)) (sym e) tt
 
 -- a pattern that is no NaN's is that of the number read from it

@@ -17,5 +17,5 @@ returns c =
     let r4 = compared-run 8 24 4 r3 refl (omega arith) (omega arith) c.is_kept-2.ensures in
     let r5 = compared-zeros 28 4 r4 refl (omega arith) (omega arith) c.is_hidden-2.ensures in
     let r6 = compared-run 8 32 24 r5 refl (omega arith) (omega arith) c.is_kept-3.ensures in
-    let r7 = compared-run 8 56 label r6 refl (omega arith) (omega arith) c.is_kept-4.ensures in
+    let r7 = compared-run 8 56 label r6 refl (omega arith) (omega arith) c.is_kept_long.ensures in
     compared-mask (56 + label) r7 (head-runs label) refl

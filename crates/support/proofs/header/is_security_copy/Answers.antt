@@ -23,6 +23,6 @@ returns c =
     let r4 = compared-run 8 16 identity r3 refl (omega arith) (omega arith) c.is_kept-3.ensures in
     let r5 = compared-zeros (16 + identity) (provider - (16 + identity)) r4 refl (omega arith) (omega arith)
     c.is_hidden_long.ensures in
-    let r6 = compared-run 8 provider info r5 (omega arith) (omega arith) (omega arith) c.is_kept-4.ensures in
+    let r6 = compared-run 8 provider info r5 (omega arith) (omega arith) (omega arith) c.is_kept_long.ensures in
     let r7 = compared-zeros (provider + info) (size - (provider + info)) r6 refl (omega arith) (omega arith) c.is_hidden.ensures in
     compared-mask size r7 (security-identity-runs f identity provider size two l.start l.end) (omega arith)

@@ -1,6 +1,5 @@
 -- C-15: 01's listing example and its like, read in a single call.
 use Rattle.std.specs.Prelude.{Err, Ok, Result, ℕ, List, [], ◌∷◌, ◌++◌, length, map, replicate}
-use Rattle.rules.specs.Refusal.{bytes}
 use Rattle.days.specs.declared.answer.DayRefusal.{DayRefusal}
 use Rattle.days.specs.declared.answer.Records.{Records}
 use Rattle.days.specs.declared.slot.Slot.{Slot}

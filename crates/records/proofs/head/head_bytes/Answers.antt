@@ -1,5 +1,5 @@
--- The bytes of the length as it is cut are those of the length. The byte before them is told at each of its two values, so that a
--- wrong one is told beside the right one.
+-- The bytes of the length as it is cut are those of the length. The byte for security first is told at each of the flag's two values,
+-- so that a wrong one is told beside the right one.
 use Prim.Native.Nat.{ℕ}
 use mathlib.Core.Bool.{cond}
 use mathlib.Core.List.{List, ◌∷◌}

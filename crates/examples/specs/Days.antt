@@ -20,10 +20,11 @@ pub record DayExample : Type 0 where
 unfoldable pub numbers_in : Slot → List ℕ
 numbers_in x = x.0
 
--- a slot as it was
+-- the numbers of a slot as it was
 unfoldable pub kept : List ℕ
 kept = replicate 7 9
 
+-- a slot as it was
 unfoldable pub lent_slot : Slot
 lent_slot = record { 0 = kept }
 

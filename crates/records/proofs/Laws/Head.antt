@@ -58,11 +58,6 @@ size-read h rest small =
     ∙ le-cong 4 (to_le 4 n ++ rest) (to_le 4 n) 0 0 (λ i l. get_or-append (to_le 4 n) rest 0 (0 + i) (omega (arith, length-to_le 4 n)))
     ∙ le-to_le 4 n (omega arith)
 
--- whether a SecurityHeader stands first, as a byte that is 1 where it does and 0 where it does not
-pub first_byte : (first : Bool) (byte : ℕ) → (first ≡ true → byte ≡ 1) → (first ≡ false → byte ≡ 0) → byte ≡ cond first 1 0
-first_byte true byte one zero = one refl
-first_byte false byte one zero = zero refl
-
 pub length-head : (h : Head) → length (head_bytes h) ≡ 8
 unfolding head_bytes to_le
 length-head h = refl
